@@ -1,153 +1,132 @@
--- How commands end.
-use Rattle.std.proofs.Common.{◌≡◌, ◌↔◌, ℕ, inl, inr, List, Option, None, Some, Result, Ok, Err, IfOk, IfSome}
+-- How calls end that write a reply.
+use Rattle.std.proofs.Common.{◌≡◌, ◌⊎◌, ◌↔◌, ℕ, inl, inr, List, Option, None, Some, Result, Ok, Err, IfErr, IfOk, IfSome}
 use Rattle.std.proofs.Common.{refl, sym, ◌∙◌, subst}
-use Rattle.std.specs.Io.KnownBytes.{Keeps}
+use Rattle.std.specs.Prelude.{Contains}
+use Rattle.std.specs.declared.io.ErrorKind.{ErrorKind}
 use Rattle.peg_io.specs.declared.transfer.ReadFault.{ReadFault}
 use Rattle.peg_io.specs.declared.transfer.ReadFault.TheVariants as read
 use Rattle.peg_json.specs.Lines.{line_bytes}
 use Rattle.peg_json.specs.Statuses.{status_code}
 use Rattle.peg_json.specs.declared.line.Line.{Line}
-use Rattle.peg_tool.specs.WritesReply.{WritesReply, WritesLine, tool_result}
+use Rattle.peg_tool.specs.CommandOutcome.{WritesOrFails}
+use Rattle.peg_tool.specs.Faults.{IsFaultAmong, IsFaultAt, plain_result, standard_output}
+use Rattle.peg_tool.specs.WritesReply.{WritesRequestReply, WritesToolReply}
 use Rattle.peg_tool.specs.Written.{Prints, PrintsInPart}
-use Rattle.peg_tool.specs.declared.write.CommandFault.{CommandFault}
-use Rattle.peg_tool.specs.declared.write.CommandFault.TheVariants as command
+use Rattle.peg_tool.specs.declared.fault.RequestFault.{RequestFault}
+use Rattle.peg_tool.specs.declared.fault.RequestFault.TheVariants as failed
+use Rattle.peg_tool.specs.declared.program.ProgramFault.{ProgramFault}
+use Rattle.peg_tool.specs.declared.program.ProgramFault.TheVariants.{File, Memory}
+use Rattle.peg_tool.specs.declared.write.ToolFault.{ToolFault}
 use Rattle.peg_tool.specs.declared.write.ToolFault.TheVariants as tool
-
--- ---- commands
-
--- if the line is correct, a correct line is written, as a whole or in part
-pub ends-writes : (IsRight : List ℕ → ℕ → Type 0) (old new : Option (List ℕ)) (reported : Result Line ReadFault)
-    (result : Result ℕ CommandFault) → WritesReply reported old new result
-    → IfOk reported (λ line. IsRight (line_bytes line) (status_code line.status))
-    → WritesLine IsRight old new result
-ends-writes IsRight old new (Ok line) (Ok status) ends right =
-    (line_bytes line, subst (IsRight (line_bytes line)) (sym ends.1) right, ends.0)
-ends-writes IsRight old new (Ok line) (Err command.Write) ends right =
-    (line_bytes line, status_code line.status, ends.0, right, ends.1, ends.2)
-ends-writes IsRight old new (Ok line) (Err command.Read) ends right = absurd ends
-ends-writes IsRight old new (Ok line) (Err command.Memory) ends right = absurd ends
-ends-writes IsRight old new (Err read.Memory) result ends right =
-    subst (λ (r : Result ℕ CommandFault). WritesLine IsRight old new r) (sym ends.0) ends.1
-ends-writes IsRight old new (Err read.Device) result ends right =
-    subst (λ (r : Result ℕ CommandFault). WritesLine IsRight old new r) (sym ends.0) ends.1
-
--- if the bytes of an input are known, its line is correct; otherwise nothing is promised
-pub input-writes : (IsRight : List ℕ → List ℕ → ℕ → Type 0) (left old new : Option (List ℕ))
-    (reported : Result Line ReadFault) (result : Result ℕ CommandFault) → WritesReply reported old new result
-    → IfSome left (λ input. IfOk reported (λ line. IsRight input (line_bytes line) (status_code line.status)))
-    → IfSome left (λ input. WritesLine (IsRight input) old new result)
-input-writes IsRight None old new reported result ends right = tt
-input-writes IsRight (Some input) old new reported result ends right =
-    ends-writes (IsRight input) old new reported result ends right
-
--- the same for a file and the texts of a task
-pub file-writes : (IsText : List ℕ → List ℕ → Type 0) (IsRight : List ℕ → List ℕ → List ℕ → ℕ → Type 0)
-    (left old new : Option (List ℕ)) (reported : Result Line ReadFault) (result : Result ℕ CommandFault)
-    → WritesReply reported old new result
-    → IfSome left (λ file. (bytes : List ℕ) → IsText file bytes
-    → IfOk reported (λ line. IsRight file bytes (line_bytes line) (status_code line.status)))
-    → IfSome left (λ file. (bytes : List ℕ) → IsText file bytes → WritesLine (IsRight file bytes) old new result)
-file-writes IsText IsRight None old new reported result ends right = tt
-file-writes IsText IsRight (Some file) old new reported result ends right =
-    λ bytes is. ends-writes (IsRight file bytes) old new reported result ends (right bytes is)
-
--- a command returns a read fault exactly if a read failed
-pub ends-read : (old new : Option (List ℕ)) (reported : Result Line ReadFault) (result : Result ℕ CommandFault)
-    (X : Type 0) → WritesReply reported old new result → (reported ≡ Err read.Device) ↔ X
-    → (result ≡ Err command.Read) ↔ X
-ends-read old new (Ok line) (Ok status) X ends both = (λ bad. cc, λ x. absurd (let bad = both.1 x in cc))
-ends-read old new (Ok line) (Err command.Write) X ends both = (λ bad. cc, λ x. absurd (let bad = both.1 x in cc))
-ends-read old new (Ok line) (Err command.Read) X ends both = absurd ends
-ends-read old new (Ok line) (Err command.Memory) X ends both = absurd ends
-ends-read old new (Err read.Memory) result X ends both =
-    (λ is. absurd (let bad : Err command.Memory ≡ Err command.Read = sym ends.0 ∙ is in cc), λ x. absurd (let bad = both.1 x in cc))
-ends-read old new (Err read.Device) result X ends both = (λ is. both.0 refl, λ x. ends.0)
-
-pub ends-nothing : (old new : Option (List ℕ)) (reported : Result Line ReadFault) (result : Result ℕ CommandFault)
-    → WritesReply reported old new result → result ≡ Err command.Read → Keeps old new
-ends-nothing old new (Ok line) (Ok status) ends is = cc
-ends-nothing old new (Ok line) (Err command.Write) ends is = cc
-ends-nothing old new (Ok line) (Err command.Read) ends is = absurd ends
-ends-nothing old new (Ok line) (Err command.Memory) ends is = absurd ends
-ends-nothing old new (Err read.Memory) result ends is = ends.1
-ends-nothing old new (Err read.Device) result ends is = ends.1
-
-pub ends-memory : (old new : Option (List ℕ)) (reported : Result Line ReadFault) (result : Result ℕ CommandFault)
-    → WritesReply reported old new result → result ≡ Err command.Memory → Keeps old new
-ends-memory old new (Ok line) (Ok status) ends is = cc
-ends-memory old new (Ok line) (Err command.Write) ends is = cc
-ends-memory old new (Ok line) (Err command.Read) ends is = absurd ends
-ends-memory old new (Ok line) (Err command.Memory) ends is = absurd ends
-ends-memory old new (Err read.Memory) result ends is = ends.1
-ends-memory old new (Err read.Device) result ends is = ends.1
-
--- ---- public calls
 
 module _ (IsRight : List ℕ → ℕ → Type 0) (old new : Option (List ℕ)) where
   -- a correct line that is written as a whole; or an allocation failed
-  writes-prints : (ended : Result ℕ CommandFault) → WritesLine IsRight old new ended
-      → IfOk (tool_result ended) (λ status. Prints IsRight old new status)
-  writes-prints (Ok status) written = inl written
-  writes-prints (Err command.Read) written = tt
-  writes-prints (Err command.Write) written = tt
-  writes-prints (Err command.Memory) written = inr (refl, written)
+  reply-prints : (reply : Result Line ReadFault) (result : Result ℕ ToolFault) → WritesToolReply reply old new result
+      → IfOk reply (λ line. IsRight (line_bytes line) (status_code line.status))
+      → IfOk result (λ status. Prints IsRight old new status)
+  reply-prints (Ok line) (Ok status) ends right =
+      inl (line_bytes line, subst (IsRight (line_bytes line)) (sym ends.1) right, ends.0)
+  reply-prints (Ok line) (Err why) ends right = tt
+  reply-prints (Err read.Device) result ends right =
+      subst (λ (r : Result ℕ ToolFault). IfOk r (λ status. Prints IsRight old new status)) (sym ends.0) tt
+  reply-prints (Err read.Memory) result ends right =
+      subst (λ (r : Result ℕ ToolFault). IfOk r (λ status. Prints IsRight old new status)) (sym ends.0)
+      (inr (refl, ends.1))
 
   -- a correct line that is written in part
-  writes-in_part : (ended : Result ℕ CommandFault) → WritesLine IsRight old new ended
-      → tool_result ended ≡ Err tool.WriteFault → PrintsInPart IsRight old new
-  writes-in_part (Ok status) written is = cc
-  writes-in_part (Err command.Read) written is = cc
-  writes-in_part (Err command.Write) written is = written
-  writes-in_part (Err command.Memory) written is = cc
+  reply-in_part : (reply : Result Line ReadFault) (result : Result ℕ ToolFault) → WritesToolReply reply old new result
+      → IfOk reply (λ line. IsRight (line_bytes line) (status_code line.status)) → result ≡ Err tool.WriteFault
+      → PrintsInPart IsRight old new
+  reply-in_part (Ok line) (Ok status) ends right is = cc
+  reply-in_part (Ok line) (Err tool.ReadFault) ends right is = absurd ends
+  reply-in_part (Ok line) (Err tool.WriteFault) ends right is =
+      (line_bytes line, status_code line.status, ends.0, right, ends.1, ends.2)
+  reply-in_part (Err read.Device) result ends right is =
+      absurd (let bad : Err tool.ReadFault ≡ Err tool.WriteFault = sym ends.0 ∙ is in cc)
+  reply-in_part (Err read.Memory) result ends right is =
+      absurd (let bad : Ok 5 ≡ Err tool.WriteFault = sym ends.0 ∙ is in cc)
 
-pub input-prints : (IsRight : List ℕ → List ℕ → ℕ → Type 0) (left old new : Option (List ℕ))
-    (ended : Result ℕ CommandFault) → IfSome left (λ input. WritesLine (IsRight input) old new ended)
-    → IfSome left (λ input. IfOk (tool_result ended) (λ status. Prints (IsRight input) old new status))
-input-prints IsRight None old new ended written = tt
-input-prints IsRight (Some input) old new ended written = writes-prints (IsRight input) old new ended written
+  -- a correct line that a request writes, as a whole or in part
+  reply-outcome : (reply : Result Line ReadFault) (result : Result ℕ ProgramFault)
+      → WritesRequestReply reply old new result
+      → IfOk reply (λ line. IsRight (line_bytes line) (status_code line.status)) → WritesOrFails IsRight old new result
+  reply-outcome (Ok line) (Ok status) ends right =
+      (line_bytes line, subst (IsRight (line_bytes line)) (sym ends.1) right, ends.0)
+  reply-outcome (Ok line) (Err File) ends right =
+      inr (line_bytes line, status_code line.status, ends.0, right, ends.1, ends.2)
+  reply-outcome (Ok line) (Err Memory) ends right = absurd ends
+  reply-outcome (Err read.Device) result ends right =
+      subst (λ (r : Result ℕ ProgramFault). WritesOrFails IsRight old new r) (sym ends.0) (inl ends.1)
+  reply-outcome (Err read.Memory) result ends right =
+      subst (λ (r : Result ℕ ProgramFault). WritesOrFails IsRight old new r) (sym ends.0) ends.1
 
-pub input-in_part : (IsRight : List ℕ → List ℕ → ℕ → Type 0) (left old new : Option (List ℕ))
-    (ended : Result ℕ CommandFault) → IfSome left (λ input. WritesLine (IsRight input) old new ended)
-    → IfSome left (λ input. tool_result ended ≡ Err tool.WriteFault → PrintsInPart (IsRight input) old new)
-input-in_part IsRight None old new ended written = tt
-input-in_part IsRight (Some input) old new ended written = writes-in_part (IsRight input) old new ended written
+-- ---- inputs whose bytes may be known
 
-pub file-prints : (IsText : List ℕ → List ℕ → Type 0) (IsRight : List ℕ → List ℕ → List ℕ → ℕ → Type 0)
-    (left old new : Option (List ℕ)) (ended : Result ℕ CommandFault)
-    → IfSome left (λ file. (bytes : List ℕ) → IsText file bytes → WritesLine (IsRight file bytes) old new ended)
-    → IfSome left (λ file. (bytes : List ℕ) → IsText file bytes
-    → IfOk (tool_result ended) (λ status. Prints (IsRight file bytes) old new status))
-file-prints IsText IsRight None old new ended written = tt
-file-prints IsText IsRight (Some file) old new ended written =
-    λ bytes is. writes-prints (IsRight file bytes) old new ended (written bytes is)
+-- if the bytes of an input are known, its line is correct; otherwise nothing is promised
+module _ (IsRight : List ℕ → List ℕ → ℕ → Type 0) (old new : Option (List ℕ)) (reply : Result Line ReadFault) where
+  pub input-prints : (left : Option (List ℕ)) (result : Result ℕ ToolFault) → WritesToolReply reply old new result
+      → IfSome left (λ input. IfOk reply (λ line. IsRight input (line_bytes line) (status_code line.status)))
+      → IfSome left (λ input. IfOk result (λ status. Prints (IsRight input) old new status))
+  input-prints None result ends right = tt
+  input-prints (Some input) result ends right = reply-prints (IsRight input) old new reply result ends right
 
-pub file-in_part : (IsText : List ℕ → List ℕ → Type 0) (IsRight : List ℕ → List ℕ → List ℕ → ℕ → Type 0)
-    (left old new : Option (List ℕ)) (ended : Result ℕ CommandFault)
-    → IfSome left (λ file. (bytes : List ℕ) → IsText file bytes → WritesLine (IsRight file bytes) old new ended)
-    → IfSome left (λ file. (bytes : List ℕ) → IsText file bytes → tool_result ended ≡ Err tool.WriteFault
-    → PrintsInPart (IsRight file bytes) old new)
-file-in_part IsText IsRight None old new ended written = tt
-file-in_part IsText IsRight (Some file) old new ended written =
-    λ bytes is. writes-in_part (IsRight file bytes) old new ended (written bytes is)
+  pub input-in_part : (left : Option (List ℕ)) (result : Result ℕ ToolFault) → WritesToolReply reply old new result
+      → IfSome left (λ input. IfOk reply (λ line. IsRight input (line_bytes line) (status_code line.status)))
+      → IfSome left (λ input. result ≡ Err tool.WriteFault → PrintsInPart (IsRight input) old new)
+  input-in_part None result ends right = tt
+  input-in_part (Some input) result ends right = reply-in_part (IsRight input) old new reply result ends right
 
--- the public call has the same read faults and write faults
-pub tool-read : (ended : Result ℕ CommandFault) (X : Type 0) → (ended ≡ Err command.Read) ↔ X
-    → (tool_result ended ≡ Err tool.ReadFault) ↔ X
-tool-read (Ok status) X both = (λ bad. cc, λ x. absurd (let bad = both.1 x in cc))
-tool-read (Err command.Read) X both = (λ is. both.0 refl, λ x. refl)
-tool-read (Err command.Write) X both = (λ bad. cc, λ x. absurd (let bad = both.1 x in cc))
-tool-read (Err command.Memory) X both = (λ bad. cc, λ x. absurd (let bad = both.1 x in cc))
+  pub input-outcome : (left : Option (List ℕ)) (result : Result ℕ ProgramFault)
+      → WritesRequestReply reply old new result
+      → IfSome left (λ input. IfOk reply (λ line. IsRight input (line_bytes line) (status_code line.status)))
+      → IfSome left (λ input. WritesOrFails (IsRight input) old new result)
+  input-outcome None result ends right = tt
+  input-outcome (Some input) result ends right = reply-outcome (IsRight input) old new reply result ends right
 
-pub tool-write : (ended : Result ℕ CommandFault) (X : Type 0) → (ended ≡ Err command.Write) ↔ X
-    → (tool_result ended ≡ Err tool.WriteFault) ↔ X
-tool-write (Ok status) X both = (λ bad. cc, λ x. absurd (let bad = both.1 x in cc))
-tool-write (Err command.Read) X both = (λ bad. cc, λ x. absurd (let bad = both.1 x in cc))
-tool-write (Err command.Write) X both = (λ is. both.0 refl, λ x. refl)
-tool-write (Err command.Memory) X both = (λ bad. cc, λ x. absurd (let bad = both.1 x in cc))
+-- the same for a file and the texts of a task
+module _ (IsText : List ℕ → List ℕ → Type 0) (IsRight : List ℕ → List ℕ → List ℕ → ℕ → Type 0)
+    (old new : Option (List ℕ)) (reply : Result Line ReadFault) where
+  pub file-prints : (left : Option (List ℕ)) (result : Result ℕ ToolFault) → WritesToolReply reply old new result
+      → IfSome left (λ file. (bytes : List ℕ) → IsText file bytes
+      → IfOk reply (λ line. IsRight file bytes (line_bytes line) (status_code line.status)))
+      → IfSome left (λ file. (bytes : List ℕ) → IsText file bytes
+      → IfOk result (λ status. Prints (IsRight file bytes) old new status))
+  file-prints None result ends right = tt
+  file-prints (Some file) result ends right =
+      λ bytes is. reply-prints (IsRight file bytes) old new reply result ends (right bytes is)
 
-pub tool-nothing : (old new : Option (List ℕ)) (ended : Result ℕ CommandFault)
-    → (ended ≡ Err command.Read → Keeps old new) → tool_result ended ≡ Err tool.ReadFault → Keeps old new
-tool-nothing old new (Ok status) kept is = cc
-tool-nothing old new (Err command.Read) kept is = kept refl
-tool-nothing old new (Err command.Write) kept is = cc
-tool-nothing old new (Err command.Memory) kept is = cc
+  pub file-in_part : (left : Option (List ℕ)) (result : Result ℕ ToolFault) → WritesToolReply reply old new result
+      → IfSome left (λ file. (bytes : List ℕ) → IsText file bytes
+      → IfOk reply (λ line. IsRight file bytes (line_bytes line) (status_code line.status)))
+      → IfSome left (λ file. (bytes : List ℕ) → IsText file bytes → result ≡ Err tool.WriteFault
+      → PrintsInPart (IsRight file bytes) old new)
+  file-in_part None result ends right = tt
+  file-in_part (Some file) result ends right =
+      λ bytes is. reply-in_part (IsRight file bytes) old new reply result ends (right bytes is)
+
+  -- a file that was opened
+  pub opened-outcome : (held left : Option (List ℕ)) (result : Result ℕ ProgramFault)
+      → IfSome held (λ bytes. left ≡ Some bytes) → WritesRequestReply reply old new result
+      → IfSome left (λ file. (bytes : List ℕ) → IsText file bytes
+      → IfOk reply (λ line. IsRight file bytes (line_bytes line) (status_code line.status)))
+      → IfSome held (λ file. (bytes : List ℕ) → IsText file bytes → WritesOrFails (IsRight file bytes) old new result)
+  opened-outcome None left result opened ends right = tt
+  opened-outcome (Some file) left result opened ends right = λ bytes is.
+      let known = subst (λ (l : Option (List ℕ)). IfSome l (λ f. (b : List ℕ) → IsText f b
+      → IfOk reply (λ line. IsRight f b (line_bytes line) (status_code line.status)))) opened right in
+      reply-outcome (IsRight file bytes) old new reply result ends (known bytes is)
+
+-- ---- faults
+
+-- a fault of a request is that of what it reads, or of the output
+pub reply-among : (result : Result ℕ RequestFault) (names : List (List ℕ)) (source : List ℕ) (read written : Option ErrorKind)
+    (Reads Writes : Type 0) → (plain_result result ≡ Err File) ↔ (Reads ⊎ Writes)
+    → (Reads → IfErr result (IsFaultAt source read)) → (Writes → IfErr result (IsFaultAt standard_output written))
+    → Contains names source → Contains names standard_output → IfErr result (IsFaultAmong names)
+reply-among (Ok status) names source read written Reads Writes fault reads writes has out = tt
+reply-among (Err failed.Memory) names source read written Reads Writes fault reads writes has out = tt
+reply-among (Err (failed.Device at kind)) names source read written Reads Writes fault reads writes has out =
+    elim (fault.0 refl) [
+      | inl reading ↦ subst (Contains names) (sym (reads reading).0) has
+      | inr writing ↦ subst (Contains names) (sym (writes writing).0) out
+    ]

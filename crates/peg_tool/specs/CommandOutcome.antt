@@ -11,8 +11,6 @@ use Rattle.peg_tool.specs.Replies.{IsPrinted, IsPrintedJoined}
 use Rattle.peg_tool.specs.Requests.{ToolRequest, InputRequest, HelpRequest, FileRequest, FilesRequest, CoverRequest, ExplainRequest}
 use Rattle.peg_tool.specs.Written.{PrintsInPart}
 use Rattle.peg_tool.specs.declared.report.Findings.{Findings}
-use Rattle.peg_tool.specs.declared.write.CommandFault.{CommandFault}
-use Rattle.peg_tool.specs.declared.write.CommandFault.TheVariants as command
 use Rattle.peg_tool.specs.declared.program.ProgramFault.{ProgramFault}
 use Rattle.peg_tool.specs.declared.program.ProgramFault.TheVariants.{File, Memory}
 use Rattle.peg_tool.specs.declared.report.Report.{Report}
@@ -76,15 +74,6 @@ abbrev pub CommandOutcome : ToolRequest → (file_at : List ℕ → NamedFile) �
 CommandOutcome request file_at input old new result =
     (ended : Result Report ProgramFault) × RequestOutcome request file_at input old new ended
     × (result ≡ status_result ended)
-
--- ---- how results are converted
-
--- the result of the program for that of a command
-abbrev pub program_result : Result ℕ CommandFault → Result ℕ ProgramFault
-program_result (Ok status) = Ok status
-program_result (Err command.Read) = Err File
-program_result (Err command.Write) = Err File
-program_result (Err command.Memory) = Err Memory
 
 -- the fault of a file that can't be opened
 abbrev pub open_fault : OpenFault → ProgramFault

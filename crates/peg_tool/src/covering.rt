@@ -22,7 +22,7 @@ ghost use Rattle.peg_tool.specs.Task.{CoverTask};
 use crate::fault::{RequestFault, Stream};
 use crate::program::ProgramFault;
 use crate::report::Findings;
-use crate::write::write_reply;
+use crate::write::write_line;
 use peg_coverage::{Coverage, CoverageFault, CoverageParser};
 use peg_coverage_files::{CoveringFault, cover_files};
 use peg_grammar::Grammar;
@@ -234,7 +234,7 @@ pub(crate) fn write_coverage<'a, W: Sink>(
     ensures named { IfErr result (IsFaultAt standard_output (W.fault_kind output.new)) }
 {
     let CoverageReply { line, faults } = reply;
-    match write_reply(output, Ok(line)) {
+    match write_line(output, line) {
         Ok(status) => Ok(Findings { status, faults }),
         Err(_) => Err(RequestFault::at(Stream::Output, output.fault_kind())),
     }

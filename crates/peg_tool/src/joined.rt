@@ -5,14 +5,13 @@ ghost use Rattle.peg_io.specs.Transfer.{ConsumesAtMost};
 ghost use Rattle.peg_json.specs.Statuses.{status_code};
 ghost use Rattle.peg_tool.specs.Replies.{IsPrintedJoined, max_joined_bytes};
 ghost use Rattle.peg_tool.specs.Written.{Prints, PrintsInPart};
-ghost use Rattle.peg_tool.specs.WritesReply.{WritesLine};
 ghost use Rattle.peg_json.specs.Lines.{line_bytes};
 
 use crate::loading::{Loaded, load};
 use crate::nodes::Nodes;
 use crate::parse::parse_line;
 use crate::tree_printing::TreePrinting;
-use crate::write::{CommandFault, ToolFault, to_tool_result, write_reply};
+use crate::write::{ToolFault, write_tool_reply};
 use peg_io::{ReadFault, Sink, Source, read_up_to, split};
 use peg_json::{Line, TreeForm};
 use peg_parser::{DEFAULT_MEMO, ParseOptions};
@@ -43,31 +42,12 @@ pub fn run_joined<G: Source, W: Sink>(
     ensures partly_written { IfSome (G.left input.old) (λ bytes. IsErrOf result ToolFault.WriteFault
         → PrintsInPart (IsPrintedJoined bytes) (W.written output.old) (W.written output.new)) }
 {
-    to_tool_result(run_input(alloc, input, output))
-}
-
-/// Does the same as `run_joined`, with a failed allocation as an error.
-pub(crate) fn run_input<G: Source, W: Sink>(
-    alloc: Global,
-    input: &mut G,
-    output: &mut W,
-) -> Result<u8, CommandFault>
-    requires input_works { G.failed input.old ≡ false }
-    requires output_works { W.failed output.old ≡ false }
-    ensures answer { IfSome (G.left input.old) (λ bytes.
-        WritesLine (IsPrintedJoined bytes) (W.written output.old) (W.written output.new) result) }
-    ensures held { ConsumesAtMost (G.left input.old) (G.left input.new) max_joined_bytes }
-    ensures read_fault { IsErrOf result CommandFault.Read ↔ (G.failed input.new ≡ true) }
-    ensures nothing_written { IsErrOf result CommandFault.Read → Keeps (W.written output.old) (W.written output.new) }
-    ensures write_fault { IsErrOf result CommandFault.Write ↔ (W.failed output.new ≡ true) }
-    ensures memory { IsErrOf result CommandFault.Memory → Keeps (W.written output.old) (W.written output.new) }
-{
     let reply = line_of(alloc, input);
-    write_reply(output, reply)
+    write_tool_reply(output, reply)
 }
 
-// Reads an input and returns its line.
-fn line_of<G: Source>(alloc: Global, input: &mut G) -> Result<Line, ReadFault>
+/// Reads an input and returns its line.
+pub(crate) fn line_of<G: Source>(alloc: Global, input: &mut G) -> Result<Line, ReadFault>
     requires { G.failed input.old ≡ false }
     ensures answer { IfSome (G.left input.old) (λ bytes. IfOk result (λ line.
         IsPrintedJoined bytes (line_bytes line) (status_code line.status))) }

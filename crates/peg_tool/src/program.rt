@@ -1,14 +1,14 @@
 //! Runs the program for its parsed arguments, and the faults that end it without an answer.
-ghost use Rattle.std.specs.Prelude.{◌≡◌, ◌≢◌, ◌⊎◌, ◌↔◌, ◌++◌, ◌∷◌, [], codes, ℕ, true, false, All, List, IfErr, IfSome, IsErrOf};
+ghost use Rattle.std.specs.Prelude.{◌≡◌, ◌⊎◌, ◌↔◌, ◌++◌, ◌∷◌, [], codes, ℕ, true, false, All, List, IfErr, IfSome, IsErrOf};
 ghost use Rattle.std.specs.Prelude.{None, is_err, map, string_bytes};
 ghost use Rattle.std.specs.Io.KnownBytes.{Keeps};
 ghost use Rattle.peg_io.specs.NamedFile.{Missing, bytes_of, is_readable};
 ghost use Rattle.peg_messages.specs.FileNames.{shown_name};
 ghost use Rattle.peg_parser.specs.Parser.{start_named};
 ghost use Rattle.peg_tool.specs.Commands.{task_of};
-ghost use Rattle.peg_tool.specs.CommandOutcome.{CommandOutcome, IsHelp, RequestOutcome, WritesOrFails, program_result};
+ghost use Rattle.peg_tool.specs.CommandOutcome.{CommandOutcome, IsHelp, RequestOutcome, WritesOrFails};
 ghost use Rattle.peg_tool.specs.Faults.{IsFaultAmong, IsFaultAt, NamesCause, plain_result, standard_input};
-ghost use Rattle.peg_tool.specs.Faults.{standard_output, stream_name, stream_names};
+ghost use Rattle.peg_tool.specs.Faults.{standard_output, stream_names};
 ghost use Rattle.peg_tool.specs.Replies.{IsPrinted, IsPrintedJoined};
 ghost use Rattle.peg_tool.specs.Requests.{HasReadableFiles, InputRequest, IsExplainRequest, LacksGrammar, LacksText, ReadsInput};
 ghost use Rattle.peg_tool.specs.Requests.{requested};
@@ -19,11 +19,10 @@ use crate::command::Command;
 use crate::covering::{coverage_reply, write_coverage};
 use crate::explaining::explain;
 use crate::fault::{RequestFault, Stream};
-use crate::joined::run_input;
 use crate::report::{Findings, Report};
 use crate::request::Request;
-use crate::tool::run_command;
-use crate::write::{CommandFault, write_reply};
+use crate::write::write_request_reply;
+use crate::{joined, tool};
 use peg_cli::Words;
 use peg_io::{Device, Opener, Sink, Source, write_all_bytes};
 use peg_json::Status;
@@ -208,13 +207,8 @@ fn on_input<'a, I: Source, W: Sink>(
     ensures output { W.failed output.new ≡ true → IfErr result (IsFaultAt standard_output (W.fault_kind output.new)) }
     ensures named { IfErr result (IsFaultAmong (standard_input ∷ standard_output ∷ [])) }
 {
-    let ended = run_input(alloc, input, output);
-    to_request_result(
-        ended,
-        Stream::Input,
-        input.fault_kind(),
-        output.fault_kind(),
-    )
+    let reply = joined::line_of(alloc, input);
+    write_request_reply(output, reply, Stream::Input, input.fault_kind())
 }
 
 // Runs a command on the grammar file with this name.
@@ -246,13 +240,8 @@ fn on_file<'a, O: Opener, W: Sink>(
         Err(fault) => return Err(RequestFault::of_file(g, fault)),
     };
     let mut text = Device::new(io::empty());
-    let ended = run_command(alloc, &mut grammar, &mut text, output, command);
-    to_request_result(
-        ended,
-        Stream::File(g),
-        grammar.fault_kind(),
-        output.fault_kind(),
-    )
+    let reply = tool::line_of(alloc, &mut grammar, &mut text, command);
+    write_request_reply(output, reply, Stream::File(g), grammar.fault_kind())
 }
 
 // Runs a command on the grammar file and the text with these names. Both are opened before either is read.
@@ -294,11 +283,10 @@ fn on_files<'a, O: Opener, W: Sink>(
         Ok(file) => file,
         Err(fault) => return Err(RequestFault::of_file(t, fault)),
     };
-    let ended = run_command(alloc, &mut grammar, &mut text, output, command);
-    let written = output.fault_kind();
+    let reply = tool::line_of(alloc, &mut grammar, &mut text, command);
     match grammar.fault_kind() {
-        None => to_request_result(ended, Stream::File(t), text.fault_kind(), written),
-        kind => to_request_result(ended, Stream::File(g), kind, written),
+        None => write_request_reply(output, reply, Stream::File(t), text.fault_kind()),
+        kind => write_request_reply(output, reply, Stream::File(g), kind),
     }
 }
 
@@ -336,25 +324,5 @@ fn on_texts<'a, O: Opener, W: Sink>(
     match coverage_reply(alloc, files, &mut grammar, g, texts, options) {
         Ok(reply) => write_coverage(output, reply),
         Err(fault) => Err(fault),
-    }
-}
-
-// Converts the result of a command to that of a request, given what it reads and the kinds of the errors of the reads
-// and of the writes.
-fn to_request_result<'a>(
-    ended: Result<u8, CommandFault>,
-    source: Stream<'a>,
-    read: Option<ErrorKind>,
-    written: Option<ErrorKind>,
-) -> Result<u8, RequestFault<'a>>
-    ensures plain { plain_result result ≡ program_result ended }
-    ensures read { IsErrOf ended CommandFault.Read → IfErr result (IsFaultAt (stream_name source.entry) read) }
-    ensures written { IsErrOf ended CommandFault.Write → IfErr result (IsFaultAt standard_output written) }
-{
-    match ended {
-        Ok(status) => Ok(status),
-        Err(CommandFault::Read) => Err(RequestFault::at(source, read)),
-        Err(CommandFault::Write) => Err(RequestFault::at(Stream::Output, written)),
-        Err(CommandFault::Memory) => Err(RequestFault::Memory),
     }
 }

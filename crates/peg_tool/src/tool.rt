@@ -15,7 +15,6 @@ ghost use Rattle.peg_tool.specs.PrintedNodes.{first_unknown};
 ghost use Rattle.peg_tool.specs.Replies.{IsPrinted};
 ghost use Rattle.peg_tool.specs.Task.{HasText, IsTextOf};
 ghost use Rattle.peg_tool.specs.Written.{Prints, PrintsInPart};
-ghost use Rattle.peg_tool.specs.WritesReply.{WritesLine};
 ghost use Rattle.peg_json.specs.Lines.{line_bytes};
 
 use crate::command::Command;
@@ -24,7 +23,7 @@ use crate::loading::{Loaded, check_file, code_file, load, table_file};
 use crate::parse::parse_line;
 use crate::profiling::profile_reply;
 use crate::tree_printing::TreePrinting;
-use crate::write::{CommandFault, ToolFault, to_tool_result, write_reply};
+use crate::write::{ToolFault, write_tool_reply};
 use peg_grammar::MAX_TEXT_BYTES;
 use peg_io::{ReadFault, Sink, Source, read_up_to};
 use peg_json::{Line, TreeForm, no_rule_line};
@@ -65,42 +64,12 @@ pub fn run_tool<G: Source, T: Source, W: Sink>(
         → IsTextOf (task_of command.now) file (T.left text.old) bytes → IsErrOf result ToolFault.WriteFault
         → PrintsInPart (IsPrinted (task_of command.now) file bytes) (W.written output.old) (W.written output.new)) }
 {
-    to_tool_result(run_command(alloc, grammar, text, output, command))
-}
-
-/// Does the same as `run_tool`, with a failed allocation as an error.
-pub(crate) fn run_command<G: Source, T: Source, W: Sink>(
-    alloc: Global,
-    grammar: &mut G,
-    text: &mut T,
-    output: &mut W,
-    command: &Command<'_>,
-) -> Result<u8, CommandFault>
-    requires grammar_works { G.failed grammar.old ≡ false }
-    requires text_works { T.failed text.old ≡ false }
-    requires output_works { W.failed output.old ≡ false }
-    ensures answer { IfSome (G.left grammar.old) (λ file. (bytes : List ℕ)
-        → IsTextOf (task_of command.now) file (T.left text.old) bytes
-        → WritesLine (IsPrinted (task_of command.now) file bytes) (W.written output.old) (W.written output.new) result) }
-    ensures held { ConsumesAtMost (G.left grammar.old) (G.left grammar.new) (max_file_bytes + 1) }
-    ensures text_held { ConsumesAtMost (T.left text.old) (T.left text.new) (max_text_bytes + 1) }
-    ensures unread { ¬ HasText (task_of command.now) → text.new ≡ text.old }
-    ensures refused { IfSome (G.left grammar.old) (λ file.
-        ((rules : List Rule) → ¬ Accepts file rules) → text.new ≡ text.old) }
-    ensures read_fault { IsErrOf result CommandFault.Read
-        ↔ ((G.failed grammar.new ≡ true) ⊎ (T.failed text.new ≡ true)) }
-    ensures nothing_written { IsErrOf result CommandFault.Read → Keeps (W.written output.old) (W.written output.new) }
-    ensures write_fault { IsErrOf result CommandFault.Write ↔ (W.failed output.new ≡ true) }
-    ensures memory { IsErrOf result CommandFault.Memory → Keeps (W.written output.old) (W.written output.new) }
-    ensures grammar_never { G.never_fails grammar.old ≡ true → G.failed grammar.new ≡ false }
-    ensures text_never { T.never_fails text.old ≡ true → T.failed text.new ≡ false }
-{
     let reply = line_of(alloc, grammar, text, command);
-    write_reply(output, reply)
+    write_tool_reply(output, reply)
 }
 
-// Reads the inputs of a command and returns its line.
-fn line_of<G: Source, T: Source>(
+/// Reads the inputs of a command and returns its line.
+pub(crate) fn line_of<G: Source, T: Source>(
     alloc: Global,
     grammar: &mut G,
     text: &mut T,

@@ -1,15 +1,19 @@
-//! Writes the line of a run and returns its exit status.
-ghost use Rattle.std.specs.Prelude.{◌≡◌, ◌↔◌, true, false, is_err, IsErrOf, OnErr, OnOk};
-ghost use Rattle.std.specs.Io.KnownBytes.{Appends};
+//! Writes the line of a reply and returns its exit status, or makes the fault that ends a call without one.
+ghost use Rattle.std.specs.Prelude.{◌≡◌, ◌⊎◌, ◌↔◌, true, false, is_err, IfErr, IfOk, IsErrOf, OnErr, OnOk};
+ghost use Rattle.std.specs.Io.KnownBytes.{Appends, Keeps};
 ghost use Rattle.peg_io.specs.Transfer.{AppendsProperPrefix};
 ghost use Rattle.peg_json.specs.Lines.{line_bytes, rows_text};
 ghost use Rattle.peg_tree.specs.FlatTreeLeft.{text_left};
-ghost use Rattle.peg_tool.specs.WritesReply.{WritesReply, tool_result};
+ghost use Rattle.peg_json.specs.Statuses.{status_code};
+ghost use Rattle.peg_tool.specs.Faults.{IsFaultAt, plain_result, standard_output, stream_name};
+ghost use Rattle.peg_tool.specs.WritesReply.{WritesRequestReply, WritesToolReply};
 
+use crate::fault::{RequestFault, Stream};
 use crate::program::ProgramFault;
 use peg_io::{DeviceFault, ReadFault, Sink, write_all_bytes};
-use peg_json::Line;
+use peg_json::{Line, Status};
 use peg_tree::FlatTreeWriter;
+use std::io::ErrorKind;
 use thiserror::Error;
 
 /// A failure of an input or of the output.
@@ -23,55 +27,60 @@ pub enum ToolFault {
     WriteFault,
 }
 
-/// Why a command has no exit status.
-#[derive(Clone, Copy)]
-pub(crate) enum CommandFault {
-    /// A read from an input failed.
-    Read,
-    /// A write to the output failed.
-    Write,
-    /// An allocation failed.
-    Memory,
-}
-
-/// Writes the line of a command and returns its exit status. Writes nothing if there is none.
-pub(crate) fn write_reply<W: Sink>(
+/// Writes the line of a public call and returns its exit status. Without a line nothing is written. Out of memory is the
+/// exit status 5.
+pub(crate) fn write_tool_reply<W: Sink>(
     output: &mut W,
     reply: Result<Line, ReadFault>,
-) -> Result<u8, CommandFault>
+) -> Result<u8, ToolFault>
     requires { W.failed output.old ≡ false }
-    ensures ends { WritesReply reply (W.written output.old) (W.written output.new) result }
-    ensures write_fault { IsErrOf result CommandFault.Write ↔ (W.failed output.new ≡ true) }
+    ensures ends { WritesToolReply reply (W.written output.old) (W.written output.new) result }
+    ensures read_fault { IsErrOf result ToolFault.ReadFault ↔ IsErrOf reply ReadFault.Device }
+    ensures nothing_written { IsErrOf result ToolFault.ReadFault → Keeps (W.written output.old) (W.written output.new) }
+    ensures write_fault { IsErrOf result ToolFault.WriteFault ↔ (W.failed output.new ≡ true) }
 {
     match reply {
-        Ok(line) => {
-            let status = line.status;
-            match write_line(output, line) {
-                Ok(()) => Ok(status.code()),
-                Err(_) => Err(CommandFault::Write),
-            }
-        }
-        Err(ReadFault::Memory) => Err(CommandFault::Memory),
-        Err(ReadFault::Device) => Err(CommandFault::Read),
+        Ok(line) => match write_line(output, line) {
+            Ok(status) => Ok(status),
+            Err(_) => Err(ToolFault::WriteFault),
+        },
+        Err(ReadFault::Device) => Err(ToolFault::ReadFault),
+        Err(ReadFault::Memory) => Ok(Status::Memory.code()),
     }
 }
 
-/// Converts the result of a command to that of a public call, where out of memory is an exit status.
-pub(crate) fn to_tool_result(ended: Result<u8, CommandFault>) -> Result<u8, ToolFault>
-    ensures { result ≡ tool_result ended }
+/// Writes the line of a request and returns its exit status. Without a line nothing is written. A failed read is a fault
+/// of `source`, with an error of this kind.
+pub(crate) fn write_request_reply<'a, W: Sink>(
+    output: &mut W,
+    reply: Result<Line, ReadFault>,
+    source: Stream<'a>,
+    kind: Option<ErrorKind>,
+) -> Result<u8, RequestFault<'a>>
+    requires { W.failed output.old ≡ false }
+    ensures ends { WritesRequestReply reply (W.written output.old) (W.written output.new) (plain_result result) }
+    ensures fault { IsErrOf (plain_result result) ProgramFault.File
+        ↔ (IsErrOf reply ReadFault.Device ⊎ (W.failed output.new ≡ true)) }
+    ensures memory { IsErrOf (plain_result result) ProgramFault.Memory
+        → Keeps (W.written output.old) (W.written output.new) }
+    ensures read { IsErrOf reply ReadFault.Device → IfErr result (IsFaultAt (stream_name source.entry) kind) }
+    ensures written { W.failed output.new ≡ true → IfErr result (IsFaultAt standard_output (W.fault_kind output.new)) }
 {
-    match ended {
-        Ok(status) => Ok(status),
-        Err(CommandFault::Read) => Err(ToolFault::ReadFault),
-        Err(CommandFault::Write) => Err(ToolFault::WriteFault),
-        Err(CommandFault::Memory) => Ok(ProgramFault::Memory.status()),
+    match reply {
+        Ok(line) => match write_line(output, line) {
+            Ok(status) => Ok(status),
+            Err(_) => Err(RequestFault::at(Stream::Output, output.fault_kind())),
+        },
+        Err(ReadFault::Device) => Err(RequestFault::at(source, kind)),
+        Err(ReadFault::Memory) => Err(RequestFault::Memory),
     }
 }
 
-// Writes the head of a line, its nodes and its tail, without copies or allocations.
-fn write_line<W: Sink>(output: &mut W, line: Line) -> Result<(), DeviceFault>
+/// Writes a line, without copies or allocations, and returns its exit status.
+pub(crate) fn write_line<W: Sink>(output: &mut W, line: Line) -> Result<u8, DeviceFault>
     requires { W.failed output.old ≡ false }
     ensures ok { OnOk result (Appends (W.written output.old) (W.written output.new) (line_bytes line)) }
+    ensures status { IfOk result (λ status. status ≡ status_code line.status) }
     ensures err { OnErr result (AppendsProperPrefix (W.written output.old) (W.written output.new) (line_bytes line)) }
     ensures failed { W.failed output.new ≡ is_err result }
 {
@@ -79,11 +88,12 @@ fn write_line<W: Sink>(output: &mut W, line: Line) -> Result<(), DeviceFault>
         head,
         rows,
         tail,
-        ..
+        status,
     } = line;
     write_all_bytes(output, head.as_bytes())?;
     write_rows(output, rows)?;
-    write_all_bytes(output, tail.bytes())
+    write_all_bytes(output, tail.bytes())?;
+    Ok(status.code())
 }
 
 // Writes the nodes of a line, if it has some.

@@ -1,7 +1,12 @@
+use Rattle.std.proofs.Common.{ℕ, List, lit<, refl, ◌∷◌, []}
 use Rattle.peg_io.specs.NamedFile.{bytes_of}
+use Rattle.peg_messages.specs.FileNames.{shown_name}
 use Rattle.peg_tool.specs.Commands.{task_of}
-use Rattle.peg_tool.specs.Faults.{plain_result}
-use Rattle.peg_tool.proofs.ProgramLemmas.{opened-outcome, alone-outcome}
+use Rattle.peg_tool.specs.Faults.{plain_result, standard_output}
+use Rattle.peg_tool.specs.Replies.{IsPrinted}
+use Rattle.peg_tool.specs.Task.{IsTextOf}
+use Rattle.peg_tool.proofs.EndLemmas.{opened-outcome, reply-among}
+use Rattle.peg_tool.proofs.ProgramLemmas.{alone-outcome}
 use Rattle.peg_tool.proofs.program.on_file.Goals as goal
 
 pub returns-clause-leads : goal.returns-clause-leads
@@ -9,8 +14,16 @@ returns-clause-leads g c =
     let task = task_of c.args.command.now in
     let held = bytes_of (g.O.Opener.file_at c.args.files.now c.args.g.now) in
     let old = g.W.Sink.written c.args.output.now in
-    let new = g.W.Sink.written c.run_command-ended.new.output in
-    let ended = plain_result c.to_request_result.result in
-    alone-outcome task held _ old new ended c.requires.alone
-    (opened-outcome task held (g.O.File.Source.left c.in-Ok.file) _ old new c.run_command-ended.result
-    ended c.in-Ok.ensures.bytes c.to_request_result.ensures.plain c.run_command-ended.ensures.answer)
+    let new = g.W.Sink.written c.write_request_reply.new.output in
+    let result = plain_result c.write_request_reply.result in
+    alone-outcome task held _ old new result c.requires.alone
+    (opened-outcome (λ (file bytes : List ℕ). IsTextOf task file _ bytes) (IsPrinted task) old new c.line_of-reply.result
+    held (g.O.File.Source.left c.in-Ok.file) result c.in-Ok.ensures.bytes c.write_request_reply.ensures.ends
+    c.line_of-reply.ensures.answer)
+
+pub returns-clause-named : goal.returns-clause-named
+returns-clause-named g c =
+    let ended = c.write_request_reply in
+    let name = shown_name c.args.g.now in
+    reply-among ended.result (name ∷ standard_output ∷ []) name _ _ _ _ ended.ensures.fault ended.ensures.read
+    ended.ensures.written (0, lit< tt, refl) (1, lit< tt, refl)

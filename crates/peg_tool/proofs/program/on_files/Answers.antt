@@ -1,9 +1,12 @@
-use Rattle.std.proofs.Common.{lit<, refl, ◌∷◌, []}
+use Rattle.std.proofs.Common.{ℕ, List, lit<, refl, ◌∷◌, []}
 use Rattle.peg_io.specs.NamedFile.{bytes_of}
 use Rattle.peg_messages.specs.FileNames.{shown_name}
 use Rattle.peg_tool.specs.Commands.{task_of}
 use Rattle.peg_tool.specs.Faults.{plain_result, standard_output}
-use Rattle.peg_tool.proofs.ProgramLemmas.{opened-outcome, both-outcome, request-among}
+use Rattle.peg_tool.specs.Replies.{IsPrinted}
+use Rattle.peg_tool.specs.Task.{IsTextOf}
+use Rattle.peg_tool.proofs.EndLemmas.{opened-outcome, reply-among}
+use Rattle.peg_tool.proofs.ProgramLemmas.{both-outcome}
 use Rattle.peg_tool.proofs.program.on_files.Goals as goal
 
 pub returns-in-None-clause-leads : goal.returns-in-None-clause-leads
@@ -13,15 +16,23 @@ returns-in-None-clause-leads g c =
     let held_text = bytes_of (g.O.Opener.file_at c.args.files.now c.args.t.now) in
     let text = g.O.File.Source.left c.in-Ok-open.file in
     let old = g.W.Sink.written c.args.output.now in
-    let new = g.W.Sink.written c.run_command-ended.new.output in
-    let ended = plain_result c.to_request_result.result in
-    both-outcome task held held_text text old new ended c.in-Ok-open.ensures.bytes
-    (opened-outcome task held (g.O.File.Source.left c.in-Ok.file) text old new c.run_command-ended.result
-    ended c.in-Ok.ensures.bytes c.to_request_result.ensures.plain c.run_command-ended.ensures.answer)
+    let new = g.W.Sink.written c.write_request_reply.new.output in
+    let result = plain_result c.write_request_reply.result in
+    both-outcome task held held_text text old new result c.in-Ok-open.ensures.bytes
+    (opened-outcome (λ (file bytes : List ℕ). IsTextOf task file text bytes) (IsPrinted task) old new
+    c.line_of-reply.result held (g.O.File.Source.left c.in-Ok.file) result c.in-Ok.ensures.bytes
+    c.write_request_reply.ensures.ends c.line_of-reply.ensures.answer)
 
 pub returns-in-None-clause-named : goal.returns-in-None-clause-named
 returns-in-None-clause-named g c =
     let names = shown_name c.args.g.now ∷ shown_name c.args.t.now ∷ standard_output ∷ [] in
-    request-among c.run_command-ended.result c.to_request_result.result names (shown_name c.args.t.now) _ _
-    c.to_request_result.ensures.plain c.to_request_result.ensures.read c.to_request_result.ensures.written
-    (1, lit< tt, refl) (2, lit< tt, refl)
+    let ended = c.write_request_reply in
+    reply-among ended.result names (shown_name c.args.t.now) _ _ _ _ ended.ensures.fault ended.ensures.read
+    ended.ensures.written (1, lit< tt, refl) (2, lit< tt, refl)
+
+pub returns-clause-named : goal.returns-clause-named
+returns-clause-named g c =
+    let names = shown_name c.args.g.now ∷ shown_name c.args.t.now ∷ standard_output ∷ [] in
+    let ended = c.write_request_reply-in_default in
+    reply-among ended.result names (shown_name c.args.g.now) _ _ _ _ ended.ensures.fault ended.ensures.read
+    ended.ensures.written (0, lit< tt, refl) (2, lit< tt, refl)
