@@ -1,6 +1,8 @@
 -- Describes code: the tasks of commands, and what requests are.
 use Rattle.std.specs.Prelude.{map, option_map, string_bytes}
 use Rattle.peg_explain_files.specs.Questions.{question_of}
+use Rattle.peg_cli.specs.declared.words.Words.{Words}
+use Rattle.peg_cli.specs.declared.words.Words.TheVariants as words
 use Rattle.peg_parser.specs.Parser.{start_named}
 use Rattle.peg_parser.specs.declared.options.ParseOptions.{ParseOptions}
 use Rattle.peg_json.specs.TreeForms.{form_from_options}
@@ -46,3 +48,8 @@ request_of (request.OnFiles g t command) = FilesRequest (task_of command) g.now 
 request_of (request.Cover g texts options) =
     CoverRequest (start_named options) options.memo options.steps g.now (map string_bytes texts.now)
 request_of (request.Explain query printing) = ExplainRequest (question_of query) printing
+
+-- the arguments are those of a parse
+abbrev pub IsParseWords : Words → Type 0
+IsParseWords (words.Parse g t start memo steps all rows no_tree show hide text) = Unit {0}
+IsParseWords other = ⊥

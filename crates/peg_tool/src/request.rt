@@ -1,7 +1,9 @@
 //! What the arguments of the program request.
-ghost use Rattle.std.specs.Prelude.{◌≡◌};
-ghost use Rattle.peg_tool.specs.Commands.{request_of};
-ghost use Rattle.peg_tool.specs.Requests.{requested};
+ghost use Rattle.std.specs.Prelude.{◌≡◌, option_map};
+ghost use Rattle.peg_lint.specs.FileWarnings.{selection_of};
+ghost use Rattle.peg_tool.specs.Commands.{IsParseWords, request_of, task_of};
+ghost use Rattle.peg_tool.specs.Requests.{FileRequest, IsExplainRequest, requested};
+ghost use Rattle.peg_tool.specs.Task.{LintTask};
 
 use crate::command::Command;
 use crate::nodes::Nodes;
@@ -51,24 +53,10 @@ impl<'a> Request<'a> {
         match words {
             Words::Joined => Request::Joined,
             Words::Help { text } => Request::Help { text },
-            Words::Table { g } => Request::OnFile {
-                g,
-                command: Command::Table,
-            },
-            Words::Check { g } => Request::OnFile {
-                g,
-                command: Command::Check,
-            },
-            Words::Code { g } => Request::OnFile {
-                g,
-                command: Command::Code,
-            },
-            Words::Lint { g, start, proved } => {
-                let start = start.as_deref();
-                let selection = Selection::from_proved(*proved);
-                let command = Command::Lint { start, selection };
-                Request::OnFile { g, command }
-            }
+            Words::Table { g } => request_on_file(g, Command::Table),
+            Words::Check { g } => request_on_file(g, Command::Check),
+            Words::Code { g } => request_on_file(g, Command::Code),
+            Words::Lint { g, start, proved } => request_lint(g, start.as_deref(), *proved),
             Words::Profile {
                 g,
                 t,
@@ -78,11 +66,8 @@ impl<'a> Request<'a> {
             } => {
                 let (start, memo, steps) = (start.as_deref(), *memo, *steps);
                 let options = ParseOptions { start, memo, steps };
-                Request::OnFiles {
-                    g,
-                    t,
-                    command: Command::Profile { options },
-                }
+                let command = Command::Profile { options };
+                Request::OnFiles { g, t, command }
             }
             Words::Coverage {
                 g,
@@ -91,67 +76,99 @@ impl<'a> Request<'a> {
                 memo,
                 steps,
             } => {
-                let (memo, steps) = (*memo, *steps);
-                let start = start.as_deref();
+                let (start, memo, steps) = (start.as_deref(), *memo, *steps);
                 let options = ParseOptions { start, memo, steps };
                 Request::Cover { g, texts, options }
             }
-            Words::Explain {
-                g,
-                texts,
-                files_from,
-                null,
-                start,
-                memo,
-                steps,
-                rules,
-                terminals,
-                quiet,
-            } => {
-                let query = Query {
-                    grammar: g,
-                    texts,
-                    list: files_from.as_deref(),
-                    end: NameEnd::from_null(*null),
-                    options: ParseOptions {
-                        start: start.as_deref(),
-                        memo: *memo,
-                        steps: *steps,
-                    },
-                    style: ItemStyle::from_flags(*rules, *terminals),
-                };
-                let printing = Printing::from_quiet(*quiet);
-                Request::Explain { query, printing }
-            }
-            Words::Parse {
-                g,
-                t,
-                start,
-                memo,
-                steps,
-                all,
-                rows,
-                no_tree,
-                show,
-                hide,
-                text,
-            } => {
-                let (from, memo, steps) = (start.as_deref(), *memo, *steps);
-                let options = ParseOptions {
-                    start: from,
-                    memo,
-                    steps,
-                };
-                let command = Command::Parse {
-                    options,
-                    all: *all,
-                    rows: *rows,
-                    no_tree: *no_tree,
-                    nodes: Nodes::from_options(show.as_deref(), hide.as_deref()),
-                    text: *text,
-                };
-                Request::OnFiles { g, t, command }
-            }
+            Words::Explain { .. } => request_explanation(words),
+            Words::Parse { .. } => request_parse(words),
         }
     }
+}
+
+// Requests a command on the grammar file with this name.
+fn request_on_file<'a>(g: &'a str, command: Command<'a>) -> Request<'a>
+    ensures { request_of result ≡ FileRequest (task_of command.entry) g.now }
+{
+    Request::OnFile { g, command }
+}
+
+// Requests the warnings about the grammar file with this name, all or only the proved ones.
+fn request_lint<'a>(g: &'a str, start: Option<&'a str>, proved: bool) -> Request<'a>
+    ensures { request_of result
+        ≡ FileRequest (LintTask (option_map (λ name. name.now) start.entry) (selection_of proved)) g.now }
+{
+    let selection = Selection::from_proved(proved);
+    request_on_file(g, Command::Lint { start, selection })
+}
+
+// Requests an explanation.
+fn request_explanation(words: &Words) -> Request<'_>
+    requires { IsExplainRequest (requested words.now) }
+    ensures { request_of result ≡ requested words.now }
+{
+    let Words::Explain {
+        g,
+        texts,
+        files_from,
+        null,
+        start,
+        memo,
+        steps,
+        rules,
+        terminals,
+        quiet,
+    } = words
+    else {
+        unreachable!()
+    };
+    let (start, memo, steps) = (start.as_deref(), *memo, *steps);
+    let query = Query {
+        grammar: g,
+        texts,
+        list: files_from.as_deref(),
+        end: NameEnd::from_null(*null),
+        options: ParseOptions { start, memo, steps },
+        style: ItemStyle::from_flags(*rules, *terminals),
+    };
+    let printing = Printing::from_quiet(*quiet);
+    Request::Explain { query, printing }
+}
+
+// Requests a parse.
+fn request_parse(words: &Words) -> Request<'_>
+    requires { IsParseWords words.now }
+    ensures { request_of result ≡ requested words.now }
+{
+    let Words::Parse {
+        g,
+        t,
+        start,
+        memo,
+        steps,
+        all,
+        rows,
+        no_tree,
+        show,
+        hide,
+        text,
+    } = words
+    else {
+        unreachable!()
+    };
+    let (from, memo, steps) = (start.as_deref(), *memo, *steps);
+    let options = ParseOptions {
+        start: from,
+        memo,
+        steps,
+    };
+    let command = Command::Parse {
+        options,
+        all: *all,
+        rows: *rows,
+        no_tree: *no_tree,
+        nodes: Nodes::from_options(show.as_deref(), hide.as_deref()),
+        text: *text,
+    };
+    Request::OnFiles { g, t, command }
 }
