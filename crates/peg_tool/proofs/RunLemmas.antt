@@ -284,13 +284,14 @@ accepts-whole file new held rules consumed end accepts =
     subst (λ (l : List ℕ). Accepts l rules)
     (sym (whole-held file new held (max_file_bytes + 1) consumed end (omega (arith, accepts.read.within)))) accepts
 
--- if a whole file isn't accepted, the bytes read of it aren't either
-pub held-unaccepted : (left new : Option (List ℕ)) (held : List ℕ) (X : Type 0) → Consumes left new held
-    → (length held < max_file_bytes + 1 → IsAtEnd new) → (((rules : List Rule) → ¬ Accepts held rules) → X)
-    → IfSome left (λ file. ((rules : List Rule) → ¬ Accepts file rules) → X)
-held-unaccepted None new held X consumed end then = tt
-held-unaccepted (Some file) new held X consumed end then =
-    λ none. then (λ rules accepts. none rules (accepts-whole file new held rules consumed end accepts))
+-- what holds of all rules of a whole file holds of all rules of the bytes read of it
+pub held-rules : (left new : Option (List ℕ)) (held : List ℕ) (P : List Rule → Type 0) (X : Type 0)
+    → Consumes left new held → (length held < max_file_bytes + 1 → IsAtEnd new)
+    → (((rules : List Rule) → Accepts held rules → P rules) → X)
+    → IfSome left (λ file. ((rules : List Rule) → Accepts file rules → P rules) → X)
+held-rules None new held P X consumed end then = tt
+held-rules (Some file) new held P X consumed end then =
+    λ all. then (λ rules accepts. all rules (accepts-whole file new held rules consumed end accepts))
 
 -- ---- lines for whole files
 

@@ -1,12 +1,12 @@
 -- The tasks of the tool.
-use Rattle.std.specs.Prelude.{◌≡◌, ℕ, Bool, false, List, Option, None, Some}
+use Rattle.std.specs.Prelude.{◌≡◌, ℕ, Bool, false, IsSome, List, Option, None, Some}
 use Rattle.peg_io.specs.NamedFile.{NamedFile}
 use Rattle.peg_semantics.specs.Rules.{Rule}
 use Rattle.peg_lint.specs.declared.warning.Selection.{Selection}
 use Rattle.peg_parser.specs.Accepts.{Accepts}
 use Rattle.peg_json.specs.declared.tree_form.TreeForm.{TreeForm}
 use Rattle.peg_json.specs.declared.tree_form.TreeForm.TheVariants.{Nested}
-use Rattle.peg_tool.specs.PrintedNodes.{PrintedNodes, AllNodes}
+use Rattle.peg_tool.specs.PrintedNodes.{PrintedNodes, AllNodes, first_unknown}
 
 -- A task: print the table of outcomes, check whether the grammar is accepted, print its code, print the warnings about
 -- it, parse a text, print the profile of a parse, or print what the texts in files use of the grammar. Warnings and a
@@ -64,3 +64,8 @@ IsTextOf (ProfileTask start memo steps) file left text =
 IsTextOf (CoverTask files start memo steps) file left text = Unit {0}
 IsTextOf (ParseTask start memo steps all form nodes with_bytes) file left text =
     (rules : List Rule) → Accepts file rules → left ≡ Some text
+
+-- a task lists the name of a rule that a grammar with these rules doesn't have
+abbrev pub ListsUnknown : ToolTask → List Rule → Type 0
+ListsUnknown (ParseTask start memo steps all form nodes with_bytes) rules = IsSome (first_unknown rules nodes)
+ListsUnknown other rules = ⊥

@@ -12,7 +12,7 @@ ghost use Rattle.peg_grammar.specs.Limits.{max_text_bytes};
 ghost use Rattle.peg_json.specs.Statuses.{status_code};
 ghost use Rattle.peg_tool.specs.Commands.{parse_task, task_of};
 ghost use Rattle.peg_tool.specs.Replies.{IsPrinted};
-ghost use Rattle.peg_tool.specs.Task.{HasText, IsTextOf};
+ghost use Rattle.peg_tool.specs.Task.{HasText, IsTextOf, ListsUnknown};
 ghost use Rattle.peg_tool.specs.Written.{Prints, PrintsInPart};
 ghost use Rattle.peg_json.specs.Lines.{line_bytes};
 
@@ -53,6 +53,8 @@ pub fn run_tool<G: Source, T: Source, W: Sink>(
     ensures unread { ¬ HasText (task_of command.now) → text.new ≡ text.old }
     ensures refused { IfSome (G.left grammar.old) (λ file.
         ((rules : List Rule) → ¬ Accepts file rules) → text.new ≡ text.old) }
+    ensures unknown { IfSome (G.left grammar.old) (λ file. ((rules : List Rule) → Accepts file rules
+        → ListsUnknown (task_of command.now) rules) → text.new ≡ text.old) }
 
     // Failures of the devices: exactly these are reported, and this much is written then.
     ensures read_fault { IsErrOf result ToolFault.ReadFault
@@ -84,6 +86,8 @@ pub(crate) fn line_of<G: Source, T: Source>(
     ensures unread { ¬ HasText (task_of command.now) → text.new ≡ text.old }
     ensures refused { IfSome (G.left grammar.old) (λ file.
         ((rules : List Rule) → ¬ Accepts file rules) → text.new ≡ text.old) }
+    ensures unknown { IfSome (G.left grammar.old) (λ file. ((rules : List Rule) → Accepts file rules
+        → ListsUnknown (task_of command.now) rules) → text.new ≡ text.old) }
     ensures device { IsErrOf result ReadFault.Device
         ↔ ((G.failed grammar.new ≡ true) ⊎ (T.failed text.new ≡ true)) }
     ensures grammar_never { G.never_fails grammar.old ≡ true → G.failed grammar.new ≡ false }
@@ -131,6 +135,8 @@ fn parse_reply<T: Source>(
         (status_code line.status)) }
     ensures held { ConsumesAtMost (T.left text.old) (T.left text.new) (max_text_bytes + 1) }
     ensures refused { ((rules : List Rule) → ¬ Accepts file.now rules) → text.new ≡ text.old }
+    ensures unknown { ((rules : List Rule) → Accepts file.now rules
+        → ListsUnknown (parse_task options.now printing.entry) rules) → text.new ≡ text.old }
     ensures device { IsErrOf result ReadFault.Device ↔ (T.failed text.new ≡ true) }
     ensures never { T.never_fails text.old ≡ true → T.failed text.new ≡ false }
 {
@@ -153,6 +159,8 @@ fn reply_by_parser<T: Source>(
         IfSome (T.left text.old) (λ bytes. IsPrinted (parse_task options.now printing.entry) file bytes (line_bytes line)
         (status_code line.status))) }
     ensures held { ConsumesAtMost (T.left text.old) (T.left text.new) (max_text_bytes + 1) }
+    ensures unknown { ListsUnknown (parse_task options.now printing.entry) (parser_rules parser.now)
+        → text.new ≡ text.old }
     ensures device { IsErrOf result ReadFault.Device ↔ (T.failed text.new ≡ true) }
     ensures never { T.never_fails text.old ≡ true → T.failed text.new ≡ false }
 {

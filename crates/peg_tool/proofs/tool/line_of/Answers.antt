@@ -8,8 +8,8 @@ use Rattle.peg_json.specs.Statuses.{status_code}
 use Rattle.peg_json.specs.declared.tree_form.TreeForm.{TreeForm}
 use Rattle.peg_tool.specs.Commands.{nodes_asked, task_of}
 use Rattle.peg_tool.specs.Replies.{IsPrinted}
-use Rattle.peg_tool.specs.Task.{ToolTask, TableTask, CheckTask, CodeTask, LintTask, ProfileTask, ParseTask, IsTextOf}
-use Rattle.peg_tool.proofs.RunLemmas.{IsRightFor, line-held, reported-held, held-unaccepted}
+use Rattle.peg_tool.specs.Task.{ToolTask, TableTask, CheckTask, CodeTask, LintTask, ProfileTask, ParseTask, IsTextOf, ListsUnknown}
+use Rattle.peg_tool.proofs.RunLemmas.{IsRightFor, line-held, reported-held, held-rules}
 use Rattle.peg_tool.proofs.tool.line_of.Goals as goal
 use Rattle.peg_json.specs.Lines.{line_bytes}
 
@@ -138,7 +138,17 @@ returns-clause-refused g c =
     let held = c.in_ok-file.file in
     let at_end : length held.items < max_file_bytes + 1 → IsAtEnd (g.G.Source.left c.read_up_to.new.input) =
     λ less. c.in_ok-file.ensures.end (omega (arith, held.ok.0)) in
-    held-unaccepted (g.G.Source.left c.args.grammar.now) (g.G.Source.left c.read_up_to.new.input) held.items _
+    held-rules (g.G.Source.left c.args.grammar.now) (g.G.Source.left c.read_up_to.new.input) held.items (λ rules. ⊥) _
     c.in_ok-file.ensures.bytes at_end
     (λ none. c.parse_reply.ensures.refused (subst (λ (l : List ℕ). (rules : List Rule) → ¬ Accepts l rules)
     (sym c.deref-in-Parse.ensures.value) none))
+
+pub returns-clause-unknown : goal.returns-clause-unknown
+returns-clause-unknown g c =
+    let held = c.in_ok-file.file in
+    let at_end : length held.items < max_file_bytes + 1 → IsAtEnd (g.G.Source.left c.read_up_to.new.input) =
+    λ less. c.in_ok-file.ensures.end (omega (arith, held.ok.0)) in
+    held-rules (g.G.Source.left c.args.grammar.now) (g.G.Source.left c.read_up_to.new.input) held.items
+    (ListsUnknown (task_of c.args.command.now)) _ c.in_ok-file.ensures.bytes at_end
+    (λ lists. c.parse_reply.ensures.unknown (λ rules accepts. subst (λ (t : ToolTask). ListsUnknown t rules)
+    (ap task_of c.in-Parse.is) (lists rules (subst (λ (l : List ℕ). Accepts l rules) c.deref-in-Parse.ensures.value accepts))))

@@ -17,3 +17,9 @@ returns-in-Accepted-clause-answer g c bytes is =
 pub returns-in-Accepted-clause-refused : goal.returns-in-Accepted-clause-refused
 returns-in-Accepted-clause-refused g c none =
     absurd (none (parser_rules c.in-Accepted.parser) (subst (IsLoadedFrom c.args.file.now) c.in-Accepted.is c.in_ok-parser.ensures))
+
+pub returns-in-Accepted-clause-unknown : goal.returns-in-Accepted-clause-unknown
+returns-in-Accepted-clause-unknown g c lists =
+    let rules = parser_rules c.in-Accepted.parser in
+    let judged = subst (IsLoadedFrom c.args.file.now) c.in-Accepted.is c.in_ok-parser.ensures in
+    c.reply_by_parser.ensures.unknown (lists rules judged)
