@@ -1,12 +1,13 @@
 -- The exits of results.
-use Rattle.std.proofs.Common.{◌≡◌, ◌↔◌, ◌∙◌, ℕ, true, false, List, Option, None, Some, Result, Ok, Err, IfErr, IfOk}
-use Rattle.std.proofs.Common.{refl, subst, sym}
-use Rattle.std.specs.Prelude.{Contains, is_err}
+use Rattle.std.proofs.Common.{◌≡◌, ◌∙◌, ℕ, List, Option, None, Some, Result, Ok, Err, IfErr, IfOk}
+use Rattle.std.proofs.Common.{ap, refl, subst, sym}
+use Rattle.std.specs.Prelude.{Contains}
+use Rattle.std.specs.Result.{result_err}
 use Rattle.std.specs.declared.io.ErrorKind.{ErrorKind}
 use Rattle.peg_io.specs.NamedFile.{NamedFile}
 use Rattle.peg_messages.specs.FileNames.{shown_name}
-use Rattle.peg_tool.specs.Exits.{IsDeviceExit, IsExitAmong, IsExitFor, IsExitNaming, IsExitOfCause, IsExitOfResult, IsFaultExit}
-use Rattle.peg_tool.specs.Exits.{IsFileExit, report_exit}
+use Rattle.peg_tool.specs.Exits.{IsDeviceExit, IsExitAmong, IsExitFor, IsExitNaming, IsExitOfCause, IsExitOfResult, IsFileExit}
+use Rattle.peg_tool.specs.Exits.{exit_fault, report_exit}
 use Rattle.peg_tool.specs.Faults.{IsFaultAmong, IsFaultAt, IsKind, NamesCause, plain_result, standard_input, stream_name}
 use Rattle.peg_tool.specs.Requests.{ToolRequest, InputRequest, HelpRequest, FileRequest, FilesRequest, CoverRequest, ExplainRequest}
 use Rattle.peg_tool.specs.declared.exit.Exit.{Exit}
@@ -26,27 +27,15 @@ device-file name known (Device text) is = tt
 device-file name known (Fault File) is = tt
 device-file name known (Fault Memory) is = is
 
-file-fault : (exit : Exit) → IsFileExit exit → IsFaultExit exit
-file-fault (Done status) is = is
-file-fault (Reported status faults) is = is
-file-fault (Usage text) is = is
-file-fault (Device text) is = tt
-file-fault (Fault fault) is = tt
-
--- an exit without a fault has no second line
-quiet-names : (name : List ℕ) (exit : Exit) → ¬ IsFaultExit exit → IsExitNaming name exit
-quiet-names name (Done status) none = tt
-quiet-names name (Reported status faults) none = tt
-quiet-names name (Usage text) none = tt
-quiet-names name (Device text) none = absurd (none tt)
-quiet-names name (Fault fault) none = tt
-
-quiet-among : (names : List (List ℕ)) (exit : Exit) → ¬ IsFaultExit exit → IsExitAmong names exit
-quiet-among names (Done status) none = tt
-quiet-among names (Reported status faults) none = tt
-quiet-among names (Usage text) none = tt
-quiet-among names (Device text) none = absurd (none tt)
-quiet-among names (Fault fault) none = tt
+-- the exit of a device has the fault of a file
+device-fault : (name : List ℕ) (known : Option ErrorKind) (exit : Exit) → IsDeviceExit name known exit
+    → exit_fault exit ≡ Some File
+device-fault name known (Done status) is = absurd is
+device-fault name known (Reported status faults) is = absurd is
+device-fault name known (Usage text) is = absurd is
+device-fault name known (Device text) is = refl
+device-fault name known (Fault File) is = refl
+device-fault name known (Fault Memory) is = absurd is
 
 -- a second line names the stream of the fault
 fault-names : (name : List ℕ) (known : Option ErrorKind) (exit : Exit) → IsDeviceExit name known exit → IsExitNaming name exit
@@ -79,10 +68,18 @@ device-known name known kind (Fault Memory) of is = is
 
 -- ---- reports and faults
 
--- a report has an exit without a fault
-report-quiet : (it : Report) → ¬ IsFaultExit (report_exit it)
-report-quiet (report.Done status) bad = bad
-report-quiet (report.Found findings) bad = bad
+-- a report has an exit without a fault and without a second line
+report-fault : (it : Report) → exit_fault (report_exit it) ≡ None
+report-fault (report.Done status) = refl
+report-fault (report.Found findings) = refl
+
+report-names : (name : List ℕ) (it : Report) → IsExitNaming name (report_exit it)
+report-names name (report.Done status) = tt
+report-names name (report.Found findings) = tt
+
+report-among : (names : List (List ℕ)) (it : Report) → IsExitAmong names (report_exit it)
+report-among names (report.Done status) = tt
+report-among names (report.Found findings) = tt
 
 -- a result of the code has the exit of its plain result
 pub exit-for : (ended : Result Report RequestFault) (exit : Exit) → IsExitOfResult ended exit
@@ -91,62 +88,34 @@ exit-for (Ok it) exit is = is
 exit-for (Err (failed.Device at kind)) exit is = device-file (stream_name at) (Some kind) exit is
 exit-for (Err failed.Memory) exit is = is
 
--- a file fault has the exit of one
-pub file-exit : (ended : Result Report RequestFault) (exit : Exit) (Writes : Type 0) → IsExitOfResult ended exit
-    → (plain_result ended ≡ Err File) ↔ Writes → IsFileExit exit ↔ Writes
-file-exit (Ok it) exit Writes is both = (
-  λ file. absurd (report-quiet it (subst IsFaultExit is (file-fault exit file))),
-  λ writes. absurd (let bad : Ok it ≡ Err File = both.1 writes in cc),
-)
-file-exit (Err (failed.Device at kind)) exit Writes is both =
-    (λ file. both.0 refl, λ writes. device-file (stream_name at) (Some kind) exit is)
-file-exit (Err failed.Memory) exit Writes is both = (
-  λ file. absurd (subst IsFileExit is file),
-  λ writes. absurd (let bad : Err Memory ≡ Err File = both.1 writes in cc),
-)
-
-pub is-file-exit : (ended : Result Report RequestFault) (exit : Exit) → IsExitOfResult ended exit
-    → plain_result ended ≡ Err File → IsFileExit exit
-is-file-exit (Ok it) exit is file = absurd (let bad : Ok it ≡ Err File = file in cc)
-is-file-exit (Err (failed.Device at kind)) exit is file = device-file (stream_name at) (Some kind) exit is
-is-file-exit (Err failed.Memory) exit is file = absurd (let bad : Err Memory ≡ Err File = file in cc)
-
--- a fault has the exit of one
-pub fault-exit : (ended : Result Report RequestFault) (exit : Exit) → IsExitOfResult ended exit
-    → is_err (plain_result ended) ≡ true → IsFaultExit exit
-fault-exit (Ok it) exit is bad = absurd (let both : false ≡ true = bad in cc)
-fault-exit (Err (failed.Device at kind)) exit is bad = file-fault exit (device-file (stream_name at) (Some kind) exit is)
-fault-exit (Err failed.Memory) exit is bad = subst IsFaultExit (sym is) tt
-
--- the exit for out of memory comes from there alone
-pub memory-exit : (ended : Result Report RequestFault) (exit : Exit) → IsExitOfResult ended exit → exit ≡ Fault Memory
-    → plain_result ended ≡ Err Memory
-memory-exit (Ok it) exit is memory = absurd (report-quiet it (subst IsFaultExit (sym memory ∙ is) tt))
-memory-exit (Err (failed.Device at kind)) exit is memory =
-    absurd (subst (IsDeviceExit (stream_name at) (Some kind)) memory is)
-memory-exit (Err failed.Memory) exit is memory = refl
+-- the exit has the fault of the result
+pub exit-fault : (ended : Result Report RequestFault) (exit : Exit) → IsExitOfResult ended exit
+    → exit_fault exit ≡ result_err (plain_result ended)
+exit-fault (Ok it) exit is = ap exit_fault is ∙ report-fault it
+exit-fault (Err (failed.Device at kind)) exit is = device-fault (stream_name at) (Some kind) exit is
+exit-fault (Err failed.Memory) exit is = ap exit_fault is
 
 -- a second line names the stream of the fault
 pub exit-naming : (ended : Result Report RequestFault) (exit : Exit) (name : List ℕ) (known : Option ErrorKind)
     → IsExitOfResult ended exit → IfErr ended (IsFaultAt name known) → IsExitNaming name exit
 exit-naming (Ok it) exit name known is at =
-    subst (IsExitNaming name) (sym is) (quiet-names name (report_exit it) (report-quiet it))
+    subst (IsExitNaming name) (sym is) (report-names name it)
 exit-naming (Err (failed.Device stream kind)) exit name known is at =
     subst (λ (n : List ℕ). IsExitNaming n exit) at.0 (fault-names (stream_name stream) (Some kind) exit is)
 exit-naming (Err failed.Memory) exit name known is at = subst (IsExitNaming name) (sym is) tt
 
 pub exit-device : (ended : Result Report RequestFault) (exit : Exit) (name : List ℕ) (known : Option ErrorKind)
-    → IsExitOfResult ended exit → plain_result ended ≡ Err File
+    → IsExitOfResult ended exit → result_err (plain_result ended) ≡ Some File
     → IfErr ended (IsFaultAt name known) → IsDeviceExit name known exit
-exit-device (Ok it) exit name known is file at = absurd (let bad : Ok it ≡ Err File = file in cc)
+exit-device (Ok it) exit name known is file at = absurd (let bad : None ≡ Some File = file in cc)
 exit-device (Err (failed.Device stream kind)) exit name known is file at =
     device-known name known kind exit at.1
     (subst (λ (n : List ℕ). IsDeviceExit n (Some kind) exit) at.0 is)
-exit-device (Err failed.Memory) exit name known is file at = absurd (let bad : Err Memory ≡ Err File = file in cc)
+exit-device (Err failed.Memory) exit name known is file at = absurd (let bad : Some Memory ≡ Some File = file in cc)
 
 pub exit-among : (ended : Result Report RequestFault) (exit : Exit) (names : List (List ℕ)) → IsExitOfResult ended exit
     → IfErr ended (IsFaultAmong names) → IsExitAmong names exit
-exit-among (Ok it) exit names is has = subst (IsExitAmong names) (sym is) (quiet-among names (report_exit it) (report-quiet it))
+exit-among (Ok it) exit names is has = subst (IsExitAmong names) (sym is) (report-among names it)
 exit-among (Err (failed.Device stream kind)) exit names is has =
     fault-among names (stream_name stream) (Some kind) exit has is
 exit-among (Err failed.Memory) exit names is has = subst (IsExitAmong names) (sym is) tt

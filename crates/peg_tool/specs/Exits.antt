@@ -1,5 +1,5 @@
 -- How the program exits.
-use Rattle.std.specs.Prelude.{◌≡◌, ◌≢◌, ℕ, true, Contains, List, [], ◌∷◌, ◌++◌, codes, Option, Some, Result, Ok, Err}
+use Rattle.std.specs.Prelude.{◌≡◌, ◌≢◌, ℕ, true, Contains, List, [], ◌∷◌, ◌++◌, codes, Option, None, Some, Result, Ok, Err}
 use Rattle.std.specs.Prelude.{string_bytes}
 use Rattle.std.specs.IoError.{error_kind}
 use Rattle.std.specs.declared.io.Error.{Error}
@@ -35,11 +35,13 @@ IsFileExit (Device text) = Unit {0}
 IsFileExit (Fault File) = Unit {0}
 IsFileExit other = ⊥
 
--- the exit for a fault
-abbrev pub IsFaultExit : Exit → Type 0
-IsFaultExit (Device text) = Unit {0}
-IsFaultExit (Fault fault) = Unit {0}
-IsFaultExit other = ⊥
+-- the fault of an exit, if it has one
+abbrev pub exit_fault : Exit → Option ProgramFault
+exit_fault (Done status) = None
+exit_fault (Reported status faults) = None
+exit_fault (Usage text) = None
+exit_fault (Device text) = Some File
+exit_fault (Fault fault) = Some fault
 
 -- the exit for a report
 abbrev pub report_exit : Report → Exit

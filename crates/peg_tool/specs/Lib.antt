@@ -47,6 +47,7 @@ pub mod Exits
 pub mod Explanations
 pub mod Faults
 pub mod Replies
+pub mod RequestContract
 pub mod Requests
 pub mod Task
 pub mod Written

@@ -1,15 +1,14 @@
 //! The program from its arguments to its exit.
-ghost use Rattle.std.specs.Prelude.{◌≡◌, ◌≢◌, ◌⊎◌, ◌↔◌, ℕ, ◌<◌, ◌≤◌, true, false, [], List, length, drop, Result, Ok, Err};
+ghost use Rattle.std.specs.Prelude.{◌≡◌, ◌≢◌, ℕ, ◌<◌, ◌≤◌, true, false, [], List, length, drop, Result, Ok, Err};
 ghost use Rattle.std.specs.Prelude.{IfErr, IfOk, IsErrAnd, Some};
-ghost use Rattle.std.specs.Io.KnownBytes.{Keeps};
 ghost use Rattle.std.specs.Vec.Iter.{into_iter_items};
 ghost use Rattle.peg_cli.specs.Words.{IsAsking};
 ghost use Rattle.peg_tool.specs.Exits.{IsArgsFault, IsDeviceExit, IsExitAmong, IsExitOf, IsExitOfFault, IsExitOfCause};
-ghost use Rattle.peg_tool.specs.Exits.{IsExitOfResult, IsFaultExit, IsFileExit, exit_message, exit_status, report_exit};
+ghost use Rattle.peg_tool.specs.Exits.{IsExitOfResult, exit_fault, exit_message, exit_status, report_exit};
 ghost use Rattle.peg_tool.specs.Exits.{words_exit};
 ghost use Rattle.peg_tool.specs.Faults.{standard_input, standard_output, stream_name, stream_names};
-ghost use Rattle.peg_tool.specs.Requests.{HasReadableFiles, InputRequest, IsExplainRequest, LacksGrammar, LacksText, ReadsInput};
-ghost use Rattle.peg_tool.specs.Requests.{requested};
+ghost use Rattle.peg_tool.specs.RequestContract.{EndsAs};
+ghost use Rattle.peg_tool.specs.Requests.{InputRequest, requested};
 
 use crate::fault::{RequestFault, Stream, device_message};
 use crate::program::{ProgramFault, run_request};
@@ -177,20 +176,9 @@ pub fn run_program<O: Opener, I: Source, W: Sink>(
         (W.written output.old) (W.written output.new) result) }
     ensures rejected { IfErr words (λ fault. result ≡ words_exit fault) }
     ensures untouched { IfErr words (λ _. (input.new ≡ input.old) × (output.new ≡ output.old)) }
-    ensures unread { IfOk words (λ asked. ¬ ReadsInput (requested asked) → input.new ≡ input.old) }
-
-    // A grammar that can't be opened is reported first, then a text. Nothing is written then. If the files are readable,
-    // a file fault comes exactly if the input or the output failed.
-    ensures no_grammar { IfOk words (λ asked. LacksGrammar (requested asked) (O.file_at files.now)
-        → IsFileExit result × (output.new ≡ output.old)) }
-    ensures no_text { IfOk words (λ asked. LacksText (requested asked) (O.file_at files.now)
-        → IsFaultExit result × (output.new ≡ output.old)) }
-    ensures device_fault { IfOk words (λ asked. HasReadableFiles (requested asked) (O.file_at files.now)
-        → (IsFileExit result ↔ ((I.failed input.new ≡ true) ⊎ (W.failed output.new ≡ true)))) }
-    ensures explain_fault { IfOk words (λ asked. IsExplainRequest (requested asked)
-        → (IsFileExit result ↔ (W.failed output.new ≡ true))) }
-    ensures memory { IfOk words (λ asked. ¬ IsExplainRequest (requested asked) → result ≡ Exit.Fault ProgramFault.Memory
-        → Keeps (W.written output.old) (W.written output.new)) }
+    ensures ends { IfOk words (λ asked. EndsAs (requested asked) (O.file_at files.now) (exit_fault result)
+        (I.failed input.new) (W.failed output.new) (input.new ≡ input.old) (output.new ≡ output.old)
+        (W.written output.old) (W.written output.new)) }
 
     // A fault of a device names what failed: standard output or standard input, or else a file of the request.
     ensures output { W.failed output.new ≡ true → IsDeviceExit standard_output (W.fault_kind output.new) result }

@@ -2,6 +2,7 @@
 ghost use Rattle.std.specs.Prelude.{◌≡◌, ◌⊎◌, ◌↔◌, ◌++◌, ◌∷◌, [], codes, ℕ, true, false, All, List, IfErr, IfSome, IsErrOf};
 ghost use Rattle.std.specs.Prelude.{None, is_err, map, string_bytes};
 ghost use Rattle.std.specs.Io.KnownBytes.{Keeps};
+ghost use Rattle.std.specs.Result.{result_err};
 ghost use Rattle.peg_io.specs.NamedFile.{Missing, bytes_of, is_readable};
 ghost use Rattle.peg_messages.specs.FileNames.{shown_name};
 ghost use Rattle.peg_parser.specs.Parser.{start_named};
@@ -10,8 +11,8 @@ ghost use Rattle.peg_tool.specs.CommandOutcome.{CommandOutcome, IsHelp, RequestO
 ghost use Rattle.peg_tool.specs.Faults.{IsFaultAmong, IsFaultAt, NamesCause, plain_result, standard_input};
 ghost use Rattle.peg_tool.specs.Faults.{standard_output, stream_names};
 ghost use Rattle.peg_tool.specs.Replies.{IsPrinted, IsPrintedJoined};
-ghost use Rattle.peg_tool.specs.Requests.{HasReadableFiles, InputRequest, IsExplainRequest, LacksGrammar, LacksText, ReadsInput};
-ghost use Rattle.peg_tool.specs.Requests.{requested};
+ghost use Rattle.peg_tool.specs.RequestContract.{EndsAs};
+ghost use Rattle.peg_tool.specs.Requests.{InputRequest, requested};
 ghost use Rattle.peg_tool.specs.CoverageOutcome.{CoverageOutcome};
 ghost use Rattle.peg_tool.specs.Task.{HasText};
 
@@ -98,23 +99,9 @@ pub fn run_words<O: Opener, I: Source, W: Sink>(
     requires output_works { W.failed output.old ≡ false }
     ensures leads { CommandOutcome (requested words.now) (O.file_at files.now) (I.left input.old) (W.written output.old)
         (W.written output.new) result }
-    ensures unread { ¬ ReadsInput (requested words.now) → input.new ≡ input.old }
-
-    // A grammar that can't be opened is reported first, then a text. Nothing is written then.
-    ensures no_grammar { LacksGrammar (requested words.now) (O.file_at files.now)
-        → IsErrOf result ProgramFault.File × (output.new ≡ output.old) }
-    ensures no_text { LacksText (requested words.now) (O.file_at files.now)
-        → (is_err result ≡ true) × (output.new ≡ output.old) }
-
-    // If the files are readable, `File` comes exactly if the input or the output failed. For other files a failed output
-    // is always reported.
-    ensures device_fault { HasReadableFiles (requested words.now) (O.file_at files.now)
-        → (IsErrOf result ProgramFault.File ↔ ((I.failed input.new ≡ true) ⊎ (W.failed output.new ≡ true))) }
-    ensures write_fault { W.failed output.new ≡ true → IsErrOf result ProgramFault.File }
-    ensures explain_fault { IsExplainRequest (requested words.now)
-        → (IsErrOf result ProgramFault.File ↔ (W.failed output.new ≡ true)) }
-    ensures memory { ¬ IsExplainRequest (requested words.now)
-        → IsErrOf result ProgramFault.Memory → Keeps (W.written output.old) (W.written output.new) }
+    ensures ends { EndsAs (requested words.now) (O.file_at files.now) (result_err result) (I.failed input.new)
+        (W.failed output.new) (input.new ≡ input.old) (output.new ≡ output.old) (W.written output.old)
+        (W.written output.new) }
 {
     match run_request(alloc, files, input, output, words) {
         Ok(report) => Ok(report.status()),
@@ -135,19 +122,9 @@ pub(crate) fn run_request<'a, O: Opener, I: Source, W: Sink>(
     requires output_works { W.failed output.old ≡ false }
     ensures leads { RequestOutcome (requested words.now) (O.file_at files.now) (I.left input.old) (W.written output.old)
         (W.written output.new) (plain_result result) }
-    ensures unread { ¬ ReadsInput (requested words.now) → input.new ≡ input.old }
-    ensures no_grammar { LacksGrammar (requested words.now) (O.file_at files.now)
-        → IsErrOf (plain_result result) ProgramFault.File × (output.new ≡ output.old) }
-    ensures no_text { LacksText (requested words.now) (O.file_at files.now)
-        → (is_err (plain_result result) ≡ true) × (output.new ≡ output.old) }
-    ensures device_fault { HasReadableFiles (requested words.now) (O.file_at files.now)
-        → (IsErrOf (plain_result result) ProgramFault.File
-        ↔ ((I.failed input.new ≡ true) ⊎ (W.failed output.new ≡ true))) }
-    ensures write_fault { W.failed output.new ≡ true → IsErrOf (plain_result result) ProgramFault.File }
-    ensures explain_fault { IsExplainRequest (requested words.now)
-        → (IsErrOf (plain_result result) ProgramFault.File ↔ (W.failed output.new ≡ true)) }
-    ensures memory { ¬ IsExplainRequest (requested words.now) → IsErrOf (plain_result result) ProgramFault.Memory
-        → Keeps (W.written output.old) (W.written output.new) }
+    ensures ends { EndsAs (requested words.now) (O.file_at files.now) (result_err (plain_result result))
+        (I.failed input.new) (W.failed output.new) (input.new ≡ input.old) (output.new ≡ output.old)
+        (W.written output.old) (W.written output.new) }
 
     // Which stream a fault names.
     ensures named { IfErr result (IsFaultAmong (stream_names (requested words.now))) }
