@@ -35,8 +35,8 @@
  * Steps
  *   A step is one instruction that the parsing machine executes. A call of a rule that the memo answers is one step.
  *   With a memo, a parse runs without it first, within 4,096 steps and 64 for each byte of the text. If these are not
- *   enough, it runs again with the memo. A limit holds for each of the two runs. A summary has the steps of the run
- *   that gave the answer.
+ *   enough, it runs again with the memo. A limit holds for each of the two runs, so both together may take twice as
+ *   many steps. A summary has the steps of the run that gave the answer.
  *
  * Results
  *   Functions that return `uint32_t` return a status, except for `peg_abi`. Functions that return `size_t` return a
