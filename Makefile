@@ -6,7 +6,7 @@ VERSION := $(shell sed -n 's/.*VERSION: &str = "\(.*\)";/\1/p' crates/peg_c/src/
 PREFIX := /usr/local
 PYTHON_PATH := $(PREFIX)/lib/python3/dist-packages
 
-.PHONY: help quick try run lib install dist test test-bindings fuzz fmt drawing
+.PHONY: help quick try run lib wheel install dist test test-bindings fuzz fmt drawing
 
 help: ## list the targets
 	@sed -n 's/^\([a-z-]*\):[^#]*## \(.*\)/  make \1|\2/p' Makefile | column -t -s '|'
@@ -22,6 +22,9 @@ run: ## prove and build the program, then run it on the bundled input
 
 lib: ## prove and build the C library, into out/lib
 	tools/c_library.sh
+
+wheel: ## make a wheel of the Python package with the library that make lib built, in out/
+	python3 python/backend/pegtool_build.py out
 
 install: ## install what make run and make lib built, below PREFIX (and DESTDIR)
 	install -D $(PROGRAM) $(DESTDIR)$(PREFIX)/bin/pegtool

@@ -1,6 +1,7 @@
 #!/usr/bin/env bash
 # Runs the tests of the Python package on the built library (`make lib`) and on the built program, which is the argument:
-# with python3, and with other versions that are here. A version that isn't, and a test that is skipped, has a line SKIPPED.
+# with python3, and with other versions that are here. The wheel is tested with the oldest version and the newest one. A
+# version that isn't here, and a test that is skipped, has a line SKIPPED.
 set -u
 cd "$(dirname "$0")/.." || exit 1
 program=$(realpath "${1:-crates/pegtool/out/pegtool}")
@@ -17,10 +18,20 @@ find_python() { # a version: the path of a Python of this version, if there is o
     "$python" -c "" 2> /dev/null && { command -v "$python"; return; }
   done
 }
+test_wheel() { # a version, and the path of its Python if it is here
+  if [ -z "$2" ]; then echo "SKIPPED: the wheel with Python $1"; return; fi
+  tests/wheel.sh "$2" || faults=$((faults + 1))
+}
 run_tests python3
 for version in 3.9 3.10 3.13; do
   python=$(find_python "$version")
   if [ -n "$python" ]; then run_tests "$python"; else echo "SKIPPED: the Python package with Python $version"; fi
 done
+test_wheel 3.9 "$(find_python 3.9)"
+for version in 3.15 3.14 3.13 3.12 3.11 3.10; do
+  newest=$(find_python "$version")
+  [ -z "$newest" ] || break
+done
+test_wheel "3.10 or later" "$newest"
 echo "Python: $faults faults"
 [ "$faults" = 0 ]

@@ -20,6 +20,7 @@ from ._errors import GrammarError, NoSuchRuleError, ParseError, PegError, StepLi
 from ._grammar import DEFAULT_MEMO, Grammar
 from ._library import version
 from ._match import Failure, Match, Node, Row, Rows
+from ._version import __version__
 from ._visitor import Visitor
 
 __all__ = [
@@ -37,5 +38,6 @@ __all__ = [
     "StepLimitError",
     "TextTooLongError",
     "Visitor",
+    "__version__",
     "version",
 ]

@@ -1,4 +1,4 @@
-"""The command line: `python -m pegtool view GRAMMAR TEXT -o page.html`."""
+"""The command line: `python -m pegtool view GRAMMAR TEXT -o page.html`, and `python -m pegtool --version`."""
 
 import argparse
 import sys
@@ -6,12 +6,16 @@ from typing import List, Optional
 
 from ._errors import GrammarError, PegError
 from ._grammar import Grammar
+from ._version import __version__
 from ._view import page
 
 
 def arguments() -> argparse.ArgumentParser:
     """The parser of the arguments."""
-    parser = argparse.ArgumentParser(prog="python -m pegtool", description="Parse texts by parsing expression grammars.")
+    parser = argparse.ArgumentParser(
+        prog="python -m pegtool", description="Parse texts by parsing expression grammars."
+    )
+    parser.add_argument("--version", action="version", version=f"pegtool {__version__}")
     commands = parser.add_subparsers(dest="command", required=True)
     view = commands.add_parser("view", help="make a page of HTML that shows a parse")
     view.add_argument("grammar", help="the grammar file")
@@ -22,8 +26,9 @@ def arguments() -> argparse.ArgumentParser:
 
 
 def main(words: Optional[List[str]] = None) -> int:
-    """Runs a command. Returns 0 if the text is matched whole, 1 if not, 2 for a refused grammar, 3 for a start that no rule
-    has and for other errors of this package, and 4 for file faults. Wrong arguments end the process with status 2."""
+    """Runs a command. Returns 0 if the text is matched whole, 1 if not, 2 for a refused grammar, 3 for a start that no
+    rule has and for other errors of this package, and 4 for file faults. Wrong arguments end the process with status
+    2."""
     options = arguments().parse_args(words)
     try:
         grammar = Grammar.from_file(options.grammar)
