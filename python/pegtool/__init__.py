@@ -11,15 +11,24 @@
     >>> [(pair.find("Key").text, int(pair.find("Value").text)) for pair in match.root]
     [('a', 1), ('bc', 22)]
 
-Offsets are in bytes from 0. Success, consumed length, tree and furthest failure are those of Ford's relation
-("Parsing Expression Grammars", POPL 2004) for the grammar as written: that is proved of the library that this package
-calls. This package itself is tested.
+Positions count from 0: characters of a `str`, and bytes of other texts. Success, consumed length, tree and furthest
+failure are those of Ford's relation ("Parsing Expression Grammars", POPL 2004) for the grammar as written: that is
+proved of the library that this package calls. This package itself is tested.
 """
 
-from ._errors import GrammarError, NoSuchRuleError, ParseError, PegError, StepLimitError, TextTooLongError
+from ._errors import (
+    GrammarError,
+    NoSuchRuleError,
+    ParseError,
+    PegError,
+    StepLimitError,
+    TextError,
+    TextTooLongError,
+)
 from ._grammar import DEFAULT_MEMO, Grammar
 from ._library import version
 from ._match import Failure, Match, Node, Row, Rows
+from ._text import Text
 from ._version import __version__
 from ._visitor import Visitor
 
@@ -36,6 +45,8 @@ __all__ = [
     "Row",
     "Rows",
     "StepLimitError",
+    "Text",
+    "TextError",
     "TextTooLongError",
     "Visitor",
     "__version__",

@@ -1,13 +1,15 @@
 """The errors of this package, and the texts that they show."""
 
+from __future__ import annotations
+
 import os
 import re
 from typing import Any, Dict, List, Optional, Tuple, Type, TypeVar
 
-# The greatest number of columns of a source line that a message shows.
-SHOWN_COLUMNS = 120
+from ._caret import caret_lines
+from ._text import Text
 
-LINE_END = re.compile(rb"\r\n|\r|\n")
+LINE_END = re.compile(b"\r\n|\r|\n")
 
 Error = TypeVar("Error", bound="PegError")
 
@@ -21,7 +23,8 @@ def restored(kind: Type[Error], arguments: Tuple[Any, ...], members: Dict[str, A
 
 
 class PegError(Exception):
-    """The base of all errors of this package. Errors can be pickled and copied, so a process may send them to another."""
+    """The base of all errors of this package. Errors can be pickled and copied, so a process may send them to
+    another."""
 
     def __reduce__(self) -> Tuple[Any, ...]:
         return restored, (type(self), self.args, self.__dict__)
@@ -30,63 +33,79 @@ class PegError(Exception):
 class GrammarError(PegError):
     """A grammar file is refused.
 
-    `kind` names the cause as `pegtool check` does, for example "Syntax" or "LeftRecursion". `line` and `column` are the
-    place that the message shows, both from 1, or `None` if it shows none; columns count bytes. `offset` is the same in
-    bytes from 0. `refusal` is the whole report of pegtool, as a dict. `str(error)` is the message of `pegtool explain`,
-    which says the cause and shows the line with a caret.
+    `kind` names the cause as `pegtool check` does, for example "Syntax" or "LeftRecursion". `line`, `column` and
+    `offset` are the place that the message shows, or `None` if it shows none. Line and column are from 1, the offset
+    from 0. Column and offset count characters if the file was given as `str`, and bytes otherwise; `byte_offset` counts
+    bytes. `message` says the cause. `refusal` is the whole report of pegtool, as a dict, whose offsets and columns
+    count bytes. `str(error)` is the message of `pegtool explain`, which shows the line with a caret.
     """
 
-    def __init__(self, refusal: Dict[str, Any], text: bytes, source: bytes, name: str) -> None:
+    def __init__(self, refusal: Dict[str, Any], text: bytes, source: Text[Any], name: str) -> None:
         self.refusal = refusal
         self.kind: str = refusal["refusal"]
         self.path: List[str] = refusal.get("path", [])
         self.line: Optional[int] = None
         self.column: Optional[int] = None
         self.offset: Optional[int] = None
+        self.byte_offset: Optional[int] = None
         # The text is ":LINE:COLUMN: SENTENCE" and two lines, or ": SENTENCE".
         place, _, rest = text.partition(b": ")
-        if place:
-            line, column = place[1:].split(b":")
-            self.line, self.column = int(line), int(column)
-            self.offset = offset_at(source, self.line, self.column)
         self.message = rest.partition(b"\n")[0].decode("utf-8", "backslashreplace")
-        super().__init__(shown_name(name) + text.decode("utf-8", "backslashreplace").rstrip("\n"))
+        if not place:
+            super().__init__(f"{shown_name(name)}: {self.message}")
+            return
+        line, column = place[1:].split(b":")
+        self.byte_offset = offset_at(source.data, int(line), int(column))
+        self.offset = source.position(self.byte_offset)
+        self.line, self.column = source.place(self.byte_offset)
+        super().__init__(message_at(name, source, self.byte_offset, self.message))
 
 
-class ParseError(PegError):
+class TextError(PegError):
+    """An error at a position of a text: the base of `ParseError`.
+
+    `message` says what is wrong. `position` is where, from 0; `line` and `column` are the same, both from 1. Position
+    and column count characters if the text was given as `str`, and bytes otherwise; `byte_position` counts bytes.
+    `str(error)` has the name of the text, line, column and message, and shows the line with a caret.
+    """
+
+    def __init__(self, message: str, text: Text[Any], byte_position: int, name: str) -> None:
+        self.message = message
+        self.byte_position = byte_position
+        self.position = text.position(byte_position)
+        self.line, self.column = text.place(byte_position)
+        super().__init__(message_at(name, text, byte_position, message))
+
+
+class ParseError(TextError):
     """A text isn't matched, or not all of it.
 
-    `position` is the offset of the fault in bytes from 0; `line` and `column` are the same, both from 1. `expected`
-    lists what would have been accepted there, as it is written in the grammar. `found` is the character there in quotes,
-    or "the end". `consumed` is the length of the prefix that matched, or `None` if there is none. `str(error)`
-    is the message of `pegtool explain`, which shows the line with a caret. It may name a rule in place of a class.
+    Besides the attributes of `TextError`, `expected` lists what would have been accepted at the position, as it is
+    written in the grammar. `found` is the character there in quotes, or "the end". `consumed` is the length of the part
+    that matched, or `None` if none did, and `far` the furthest position where a terminal failed; both count as
+    `position` does. `str(error)` is the message of `pegtool explain`, where columns of `str` texts count characters. It
+    may name a rule in place of a class.
     """
 
     def __init__(
         self,
-        text: bytes,
-        name: bytes,
-        data: bytes,
-        position: int,
+        message: str,
+        text: Text[Any],
+        byte_position: int,
+        name: str,
         expected: List[str],
         consumed: Optional[int],
         far: int,
     ) -> None:
-        self.position = position
+        super().__init__(message, text, byte_position, name)
         self.expected = expected
         self.consumed = consumed
         self.far = far
-        # The text begins with the name, the line and the column.
-        line, column, rest = text[len(name) + 1 :].split(b":", 2)
-        self.line, self.column = int(line), int(column)
-        sentence = rest[1:].partition(b"\n")[0]
-        self.message = sentence.decode("utf-8", "backslashreplace")
-        self.found: str = self.message.rpartition(", found ")[2]
-        super().__init__(text.decode("utf-8", "backslashreplace").rstrip("\n"))
+        self.found: str = message.rpartition(", found ")[2]
 
 
 class NoSuchRuleError(PegError, ValueError):
-    """No rule has the name that was given for the start."""
+    """No rule has the name that was given."""
 
 
 class StepLimitError(PegError):
@@ -97,23 +116,8 @@ class TextTooLongError(PegError, ValueError):
     """A text has more than 67,108,864 bytes."""
 
 
-def line_start(data: bytes, position: int) -> Tuple[int, int]:
-    """The number of the line of a position, from 1, and the offset where that line starts. LF, CR LF and CR end lines."""
-    pairs = data.count(b"\r\n", 0, position + 1)
-    line = data.count(b"\n", 0, position) + data.count(b"\r", 0, position) - pairs + 1
-    # A position between CR and LF is in the line that they end.
-    end = position - 1 if data[max(position - 1, 0) : position + 1] == b"\r\n" else position
-    return line, max(data.rfind(b"\n", 0, end), data.rfind(b"\r", 0, end)) + 1
-
-
-def line_and_column(data: bytes, position: int) -> Tuple[int, int]:
-    """The line and the column of a position, both from 1. Columns count bytes."""
-    line, start = line_start(data, position)
-    return line, position - start + 1
-
-
 def offset_at(data: bytes, line: int, column: int) -> int:
-    """The offset of a line and a column, both from 1."""
+    """The offset of a line and a column, both from 1, where columns count bytes."""
     start = 0
     for _ in range(line - 1):
         found = LINE_END.search(data, start)
@@ -132,36 +136,26 @@ def shown(data: bytes) -> str:
     return "".join(c if c.isprintable() else c.encode("unicode_escape").decode("ascii") for c in text)
 
 
-def message_at(name: bytes, data: bytes, position: int, expected: List[str]) -> bytes:
-    """A message in the form of `pegtool explain`: the place, what is expected and found there, the line and a caret."""
-    line, column = line_and_column(data, position)
+def message_at(name: str, text: Text[Any], offset: int, sentence: str) -> str:
+    """A message in the form of `pegtool explain`: the name of the text, the place, a sentence, the line and a caret."""
+    line, column = text.place(offset)
+    _, start = text.lines.at(offset)
+    return f"{shown_name(name)}:{line}:{column}: {sentence}\n{caret_lines(text.data, start, offset)}"
+
+
+def sentence_of(data: bytes, offset: int, expected: List[str]) -> str:
+    """The sentence that says what is expected and what is found at an offset."""
     items = " or ".join(filter(None, [", ".join(expected[:-1]), *expected[-1:]]))
-    found = found_at(data, position)
-    return name + f":{line}:{column}: expected {items}, found {found}\n{caret_lines(data, position)}\n".encode("utf-8")
+    return f"expected {items}, found {found_at(data, offset)}"
 
 
-def found_at(data: bytes, position: int) -> str:
-    """The character at a position in quotes, a byte that is none as an escape, or "the end"."""
-    if position >= len(data):
+def found_at(data: bytes, offset: int) -> str:
+    """The character at an offset in quotes, a byte that is none as an escape, or "the end"."""
+    if offset >= len(data):
         return "the end"
     for length in range(1, 5):
         try:
-            return f"'{shown(data[position : position + length].decode('utf-8').encode('utf-8'))}'"
+            return f"'{shown(data[offset : offset + length].decode('utf-8').encode('utf-8'))}'"
         except UnicodeDecodeError:
             continue
-    return f"'\\x{data[position]:02X}'"
-
-
-def caret_lines(data: bytes, position: int) -> str:
-    """The source line of a position and a caret below it. A long line is cut around the position."""
-    _, start = line_start(data, position)
-    found = LINE_END.search(data, start)
-    end = found.start() if found else len(data)
-    position = min(position, end) if found else position
-    if end - start > SHOWN_COLUMNS:
-        start = max(start, position - SHOWN_COLUMNS // 2)
-        end = min(end, start + SHOWN_COLUMNS)
-    before = data[start:position].decode("utf-8", "replace")
-    line = data[start:end].decode("utf-8", "replace")
-    below = "".join(c if c == "\t" else " " for c in before)
-    return f"{line}\n{below}^"
+    return f"'\\x{data[offset]:02X}'"

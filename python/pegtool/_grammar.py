@@ -1,14 +1,27 @@
 """Grammars: grammar files that were accepted, and parses by them."""
 
+from __future__ import annotations
+
 import json
 import operator
 import os
 import threading
-from typing import FrozenSet, NamedTuple, Optional, Tuple, Union
+from typing import Any, FrozenSet, Optional, Tuple, Union, overload
 
-from ._errors import GrammarError, NoSuchRuleError, ParseError, StepLimitError, TextTooLongError
-from ._library import FAILED, NO_SUCH_START, OK, REFUSED, STEP_LIMIT, TEXT_TOO_LONG, GrammarHandle, RawExplanation
-from ._match import Failure, Match
+from ._errors import GrammarError, NoSuchRuleError, StepLimitError, TextTooLongError
+from ._library import (
+    FAILED,
+    NO_SUCH_START,
+    REFUSED,
+    STEP_LIMIT,
+    TEXT_TOO_LONG,
+    GrammarHandle,
+    Options,
+    RawExplanation,
+)
+from ._match import Failure, Match, Request
+from ._packed import shifted
+from ._text import Buffer, Text, text_of
 
 # The capacity of the memo that pegtool uses if none is given.
 DEFAULT_MEMO = 4096
@@ -16,17 +29,6 @@ DEFAULT_MEMO = 4096
 # The greatest number of memo entries, and of steps, that can be asked for.
 MAX_MEMO = 1_000_000
 MAX_STEPS = 1_000_000_000_000
-
-Text = Union[str, bytes, bytearray, memoryview]
-
-
-class Options(NamedTuple):
-    """The options of a parse, as the library takes them: the name of the start rule, empty for the first one; the
-    capacity of the memo; and the limit of steps, 0 for none."""
-
-    start: bytes
-    memo: int
-    steps: int
 
 
 class Grammar:
@@ -42,9 +44,10 @@ class Grammar:
     A grammar may be used by several threads at once: each of them has its own copy of the compiled grammar.
     """
 
-    def __init__(self, source: Text, *, name: str = "<grammar>") -> None:
+    def __init__(self, source: Union[str, Buffer], *, name: str = "<grammar>") -> None:
+        self._text = text_of(source)
         # The grammar file, as bytes.
-        self.source = as_bytes(source)
+        self.source: bytes = self._text.data
         # How messages call the grammar file.
         self.name = name
         self._handles = threading.local()
@@ -53,20 +56,45 @@ class Grammar:
         self.rules: Tuple[str, ...] = self._handle().rules()
 
     @classmethod
-    def from_file(cls, path: Union[str, "os.PathLike[str]"]) -> "Grammar":
+    def from_file(cls, path: Union[str, os.PathLike[str]]) -> Grammar:
         """The grammar in a file. Raises `OSError` if it can't be read, and `GrammarError` if it is refused."""
         with open(path, "rb") as file:
             return cls(file.read(), name=os.fsdecode(path))
 
+    @overload
     def parse(
         self,
-        data: Text,
+        data: Union[str, Text[str]],
         start: Optional[str] = None,
         *,
+        pos: int = 0,
         memo: int = DEFAULT_MEMO,
         steps: Optional[int] = None,
         name: str = "<text>",
-    ) -> Match:
+    ) -> Match[str]: ...
+
+    @overload
+    def parse(
+        self,
+        data: Union[Buffer, Text[bytes]],
+        start: Optional[str] = None,
+        *,
+        pos: int = 0,
+        memo: int = DEFAULT_MEMO,
+        steps: Optional[int] = None,
+        name: str = "<text>",
+    ) -> Match[bytes]: ...
+
+    def parse(
+        self,
+        data: Any,
+        start: Optional[str] = None,
+        *,
+        pos: int = 0,
+        memo: int = DEFAULT_MEMO,
+        steps: Optional[int] = None,
+        name: str = "<text>",
+    ) -> Match[Any]:
         """Parses a whole text. Returns the match.
 
         >>> Grammar("Word <- [a-z]+").parse("ab1")
@@ -76,27 +104,56 @@ class Grammar:
         ab1
           ^
 
-        `start` is the name of the start rule, by default the first one. `memo` is the capacity of the memo, which changes
-        no result. `steps` limits the parse, and the second one that finds what was expected. `name` is how the error
-        calls the text.
+        `data` is `str`, `bytes`, another buffer or a `Text`. `start` is the name of the start rule, by default the
+        first one. The other options are given by name:
 
-        Raises `ParseError` if the text isn't matched as a whole. Raises `NoSuchRuleError` if no rule has the name of the
-        start, `StepLimitError` if more steps are needed, `TextTooLongError` for a text over the limit, and `MemoryError`
-        if memory runs out.
+        `pos` is the position where the parse begins; it takes the text from there to the end. `memo` is the capacity of
+        the memo, which changes no result. `steps` limits the parse, and the second one that finds what was expected.
+        `name` is how errors call the text.
+
+        Raises `ParseError` if the text isn't matched as a whole. Raises `NoSuchRuleError` if no rule has the name of
+        the start, `StepLimitError` if more steps are needed, `TextTooLongError` for a text over the limit,
+        `MemoryError` if memory runs out, and `ValueError` if the text has no such position.
         """
-        answer = self.match(data, start, memo=memo, steps=steps)
+        answer: Union[Match[Any], Failure[Any]] = self.match(data, start, pos=pos, memo=memo, steps=steps, name=name)
         if isinstance(answer, Failure) or not answer.is_whole:
-            raise answer.error(name)
+            raise answer.error()
         return answer
+
+    @overload
+    def match(
+        self,
+        data: Union[str, Text[str]],
+        start: Optional[str] = None,
+        *,
+        pos: int = 0,
+        memo: int = DEFAULT_MEMO,
+        steps: Optional[int] = None,
+        name: str = "<text>",
+    ) -> Union[Match[str], Failure[str]]: ...
+
+    @overload
+    def match(
+        self,
+        data: Union[Buffer, Text[bytes]],
+        start: Optional[str] = None,
+        *,
+        pos: int = 0,
+        memo: int = DEFAULT_MEMO,
+        steps: Optional[int] = None,
+        name: str = "<text>",
+    ) -> Union[Match[bytes], Failure[bytes]]: ...
 
     def match(
         self,
-        data: Text,
+        data: Any,
         start: Optional[str] = None,
         *,
+        pos: int = 0,
         memo: int = DEFAULT_MEMO,
         steps: Optional[int] = None,
-    ) -> Union[Match, Failure]:
+        name: str = "<text>",
+    ) -> Union[Match[Any], Failure[Any]]:
         """Parses a prefix of a text. Returns a `Match`, which is true, or a `Failure`, which is false.
 
         >>> Grammar("Word <- [a-z]+").match("ab1")
@@ -104,15 +161,18 @@ class Grammar:
         >>> Grammar("Word <- [a-z]+").match("1")
         <Failure at 0>
 
-        The options and the other errors are those of `parse`.
+        The options and the other errors are those of `parse`. With `pos` the prefix begins there. `bytes` and a `Text`
+        aren't copied, so texts with many records can be parsed record by record. `str` is encoded in each call.
         """
         options = options_of(start, memo, steps)
-        text = as_bytes(data)
-        status, raw = self._handle().parse(text, *options)
-        if status in (OK, FAILED):
-            given = data if isinstance(data, str) else text
-            return (Match if status == OK else Failure)(self, given, text, raw, options)
-        raise fault(status, options)
+        text = text_of(data)
+        first = text.offset(operator.index(pos))
+        status, raw = self._handle().parse(text.data, first, options)
+        if raw is None:
+            raise fault(status, options)
+        request = Request(text, first, options, name)
+        raw = shifted(raw, first)
+        return (Failure if status == FAILED else Match)(self, request, raw)
 
     def is_leaf(self, rule: str) -> bool:
         """Whether nodes of a rule never have children: the rule calls no other outside predicates. The first use takes
@@ -123,35 +183,25 @@ class Grammar:
             self._leaves = leaves(self)
         return rule in self._leaves
 
-    def _explain(self, name: bytes, data: bytes, options: Options) -> RawExplanation:
-        """Where a text doesn't match as a whole. The name begins the message."""
-        status, raw = self._handle().explain(name, data, *options)
-        if status == FAILED:
-            return raw
-        raise fault(status, options)
+    def _explain(self, text: bytes, first: int, options: Options) -> RawExplanation:
+        """Where a text doesn't match as a whole, from an offset on."""
+        status, raw = self._handle().explain(text, first, options)
+        if raw is None:
+            raise fault(status, options)
+        return raw
 
     def _handle(self) -> GrammarHandle:
         """The compiled grammar of this thread."""
-        handle = getattr(self._handles, "handle", None)
+        handle: Optional[GrammarHandle] = getattr(self._handles, "handle", None)
         if handle is None:
             handle = GrammarHandle(self.source)
             if handle.status == REFUSED:
-                raise GrammarError(json.loads(handle.refusal()), handle.message(), self.source, self.name)
+                raise GrammarError(json.loads(handle.refusal()), handle.message(), self._text, self.name)
             self._handles.handle = handle
         return handle
 
     def __repr__(self) -> str:
         return f"<Grammar {self.name}, {len(self.rules)} rules>"
-
-
-def as_bytes(data: Text) -> bytes:
-    """A text as bytes; `str` is encoded as UTF-8. Raises `TypeError` for what isn't `str`, `bytes` or a buffer."""
-    if isinstance(data, str):
-        return data.encode("utf-8")
-    try:
-        return data if type(data) is bytes else bytes(memoryview(data))
-    except TypeError:
-        raise TypeError(f"a text is str, bytes or a buffer, and not {type(data).__name__}") from None
 
 
 def options_of(start: Optional[str], memo: int, steps: Optional[int]) -> Options:

@@ -1,11 +1,13 @@
 """The C library of Cutzalmi: the declarations of include/peg.h, and handles that stay on the thread that made them."""
 
+from __future__ import annotations
+
 import ctypes
 import os
 import threading
 from ctypes import POINTER, byref, c_char_p, c_size_t, c_uint8, c_uint32, c_uint64, c_void_p
 from ctypes.util import find_library
-from typing import Callable, Dict, Iterator, List, Tuple
+from typing import Any, Callable, Dict, Iterator, List, NamedTuple, Optional, Tuple
 
 # The number of the binary interface that this module is written for.
 ABI = 1
@@ -56,7 +58,8 @@ class PegMismatch(ctypes.Structure):
     _fields_ = [("position", c_uint32), ("end_expected", c_uint32), ("expected", c_uint64)]
 
 
-DECLARATIONS = {
+# The result and the arguments of each function. A text is a `c_void_p`, which takes an address inside of `bytes`.
+DECLARATIONS: Dict[str, Tuple[Any, ...]] = {
     "peg_grammar_read": (c_uint32, c_char_p, c_size_t, POINTER(Handle)),
     "peg_grammar_free": (None, POINTER(Handle)),
     "peg_grammar_refusal": (c_size_t, POINTER(Handle), POINTER(c_uint8), c_size_t),
@@ -66,7 +69,7 @@ DECLARATIONS = {
     "peg_parse": (
         c_uint32,
         POINTER(Handle),
-        c_char_p,
+        c_void_p,
         c_size_t,
         c_char_p,
         c_size_t,
@@ -83,7 +86,7 @@ DECLARATIONS = {
         POINTER(Handle),
         c_char_p,
         c_size_t,
-        c_char_p,
+        c_void_p,
         c_size_t,
         c_char_p,
         c_size_t,
@@ -139,7 +142,7 @@ def load() -> ctypes.CDLL:
 LIBRARY = load()
 
 
-def copied(copy: Callable[[ctypes.Array, int], int]) -> bytes:
+def copied(copy: Callable[[Any, int], int]) -> bytes:
     """The bytes of a call that copies them to a buffer and returns how many there are."""
     length = copy((c_uint8 * 1)(), 0)
     buffer = (c_uint8 * max(length, 1))()
@@ -150,6 +153,11 @@ def copied(copy: Callable[[ctypes.Array, int], int]) -> bytes:
 def version() -> str:
     """The version of the library."""
     return copied(LIBRARY.peg_version).decode("ascii")
+
+
+def address(data: bytes, offset: int) -> int:
+    """The address of a byte of some bytes. They must be kept while it is used."""
+    return (ctypes.cast(c_char_p(data), c_void_p).value or 0) + offset
 
 
 class Owner:
@@ -202,7 +210,8 @@ def this_thread() -> Owner:
     if not hasattr(_threads, "owner"):
         _threads.owner = Owner()
         _threads.guard = Guard(_threads.owner)
-    return _threads.owner
+    owner: Owner = _threads.owner
+    return owner
 
 
 class GrammarHandle:
@@ -242,52 +251,99 @@ class GrammarHandle:
     def _name(self, rule: int) -> str:
         return copied(lambda out, length: LIBRARY.peg_rule_name(byref(self.raw), rule, out, length)).decode("ascii")
 
-    def parse(self, text: bytes, start: bytes, memo: int, steps: int) -> Tuple[int, "RawAnswer"]:
-        """Parses a text. Returns the status, and the answer if there is one."""
+    def parse(self, text: bytes, first: int, options: Options) -> Tuple[int, Optional[RawAnswer]]:
+        """Parses a text from an offset. Returns the status, and the answer if there is one."""
         self.owner.release()
         found = Handle()
         try:
             status = LIBRARY.peg_parse(
-                byref(self.raw), text, len(text), start, len(start), memo, steps, byref(found)
+                byref(self.raw), address(text, first), len(text) - first, *options.words(), byref(found)
             )
-            return status, RawAnswer(found)
+            return status, raw_answer(found) if status in (OK, FAILED) else None
         finally:
             LIBRARY.peg_match_free(byref(found))
 
-    def explain(self, name: bytes, text: bytes, start: bytes, memo: int, steps: int) -> Tuple[int, "RawExplanation"]:
-        """Explains where a text doesn't match. Returns the status, and the explanation if there is one."""
+    def explain(self, text: bytes, first: int, options: Options) -> Tuple[int, Optional[RawExplanation]]:
+        """Explains where a text doesn't match from an offset. Returns the status, and the explanation if there is
+        one."""
         self.owner.release()
         found = Handle()
         try:
             status = LIBRARY.peg_explain(
-                byref(self.raw), name, len(name), text, len(text), start, len(start), memo, steps, byref(found)
+                byref(self.raw), b"", 0, address(text, first), len(text) - first, *options.words(), byref(found)
             )
-            return status, RawExplanation(found)
+            return status, raw_explanation(found) if status == FAILED else None
         finally:
             LIBRARY.peg_explanation_free(byref(found))
 
 
-class RawExplanation:
-    """What an explanation handle holds, copied: the message, the place, and the spans of the expected items."""
+class Options(NamedTuple):
+    """The options of a parse, as the library takes them: the name of the start rule, empty for the first one; the
+    capacity of the memo; and the limit of steps, 0 for none."""
 
-    def __init__(self, found: Handle) -> None:
-        self.message = copied(lambda out, length: LIBRARY.peg_explanation_message(byref(found), out, length))
-        self.mismatch = PegMismatch()
-        LIBRARY.peg_explanation_mismatch(byref(found), byref(self.mismatch))
-        self.expected = (PegSpan * self.mismatch.expected)()
-        if self.mismatch.expected:
-            LIBRARY.peg_explanation_expected(byref(found), 0, self.expected, self.mismatch.expected)
+    start: bytes
+    memo: int
+    steps: int
+
+    def words(self) -> Tuple[bytes, int, int, int]:
+        """The arguments of a call: the name and its length, the memo and the steps."""
+        return self.start, len(self.start), self.memo, self.steps
 
 
-class RawAnswer:
-    """What a match handle holds, copied: the summary, the packed nodes, and the spans of the expected terminals."""
+class RawExplanation(NamedTuple):
+    """What an explanation handle holds, copied. Offsets in the text count from where the parse began."""
 
-    def __init__(self, found: Handle) -> None:
-        self.summary = PegSummary()
-        LIBRARY.peg_match_summary(byref(found), byref(self.summary))
-        self.nodes = (PegNode * self.summary.nodes)()
-        if self.summary.nodes:
-            LIBRARY.peg_match_nodes(byref(found), 0, self.nodes, self.summary.nodes)
-        self.expected = (PegSpan * self.summary.expected)()
-        if self.summary.expected:
-            LIBRARY.peg_match_expected(byref(found), 0, self.expected, self.summary.expected)
+    # The message, after the name of the text.
+    message: str
+    # The sentence of the message, which says what is expected and what is found.
+    sentence: str
+    position: int
+    # The spans of the expected items in the grammar file.
+    expected: List[Tuple[int, int]]
+    # Whether the end of the text is expected, too.
+    end_expected: bool
+
+
+def raw_explanation(found: Handle) -> RawExplanation:
+    """Copies what an explanation handle holds."""
+    copy = copied(lambda out, length: LIBRARY.peg_explanation_message(byref(found), out, length))
+    # The name is empty, so the message is ":LINE:COLUMN: SENTENCE" and two lines.
+    message = copy.decode("utf-8", "backslashreplace")
+    sentence = message.partition(": ")[2].partition("\n")[0]
+    mismatch = PegMismatch()
+    LIBRARY.peg_explanation_mismatch(byref(found), byref(mismatch))
+    spans = (PegSpan * mismatch.expected)()
+    if mismatch.expected:
+        LIBRARY.peg_explanation_expected(byref(found), 0, spans, mismatch.expected)
+    return RawExplanation(message, sentence, mismatch.position, pairs_of(spans), bool(mismatch.end_expected))
+
+
+class RawAnswer(NamedTuple):
+    """What a match handle holds, copied. Offsets in the text count from where the parse began."""
+
+    consumed: int
+    furthest: int
+    steps: int
+    # The spans of the expected terminals in the grammar file.
+    expected: List[Tuple[int, int]]
+    # The packed nodes.
+    nodes: memoryview
+
+
+def raw_answer(found: Handle) -> RawAnswer:
+    """Copies what a match handle holds."""
+    summary = PegSummary()
+    LIBRARY.peg_match_summary(byref(found), byref(summary))
+    nodes = (PegNode * summary.nodes)()
+    if summary.nodes:
+        LIBRARY.peg_match_nodes(byref(found), 0, nodes, summary.nodes)
+    spans = (PegSpan * summary.expected)()
+    if summary.expected:
+        LIBRARY.peg_match_expected(byref(found), 0, spans, summary.expected)
+    words = memoryview(nodes).cast("B").cast("I")
+    return RawAnswer(summary.consumed, summary.furthest, summary.steps, pairs_of(spans), words)
+
+
+def pairs_of(spans: Any) -> List[Tuple[int, int]]:
+    """Spans as pairs of offsets."""
+    return [(span.start, span.end) for span in spans]

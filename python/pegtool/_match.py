@@ -4,18 +4,33 @@ from __future__ import annotations
 
 import array
 import re
-from typing import TYPE_CHECKING, Dict, Iterable, Iterator, List, NamedTuple, Optional, Sequence, Tuple, Union, overload
+from typing import (
+    TYPE_CHECKING,
+    Any,
+    Dict,
+    Generic,
+    Iterable,
+    Iterator,
+    List,
+    Literal,
+    NamedTuple,
+    Optional,
+    Sequence,
+    Tuple,
+    Union,
+    overload,
+)
 
-from ._errors import NoSuchRuleError, ParseError, StepLimitError, message_at, shown_name
-from ._library import RawAnswer
+from ._errors import NoSuchRuleError, ParseError, StepLimitError, sentence_of
+from ._library import Options, RawAnswer
+from ._packed import END, LEVEL, RULE, SIZE, START, WORDS
+from ._text import AnyText, Text
 
 if TYPE_CHECKING:
-    from ._grammar import Grammar, Options
+    from ._grammar import Grammar
 
-# A packed node has six 32-bit words: rule, start, end, level, and the size, whose upper word is always 0 here: a match
-# whose nodes don't fit into the memory of the process isn't made.
-WORDS = 6
-RULE, START, END, LEVEL, SIZE = range(5)
+# The type of `Node.bytes`, whose own name hides the type in the class.
+Bytes = bytes
 
 # Blanks and comments of a grammar file.
 BLANKS = re.compile(r"^(?:[ \t\r\n]|#[^\r\n]*)*")
@@ -24,8 +39,20 @@ BLANKS = re.compile(r"^(?:[ \t\r\n]|#[^\r\n]*)*")
 MAX_LEVELS = 60
 
 
+class Request(NamedTuple):
+    """What a parse was asked for."""
+
+    text: Text[Any]
+    # The offset in bytes where the parse began.
+    first: int
+    options: Options
+    # How errors call the text.
+    name: str
+
+
 class Row(NamedTuple):
-    """A node as `pegtool parse --rows` prints it. The level of the root is 1, and offsets are in bytes."""
+    """A node as `pegtool parse --rows` prints it. The level of the root is 1. Offsets count bytes, for `str` texts,
+    too."""
 
     level: int
     rule: str
@@ -43,7 +70,7 @@ class Rows(Sequence[Row]):
     # The type of a packed node, as a list of fields for numpy.
     FORMAT = [("rule", "u4"), ("start", "u4"), ("end", "u4"), ("level", "u4"), ("size", "u8")]
 
-    def __init__(self, match: "Match") -> None:
+    def __init__(self, match: Match[Any]) -> None:
         self._match = match
 
     def __len__(self) -> int:
@@ -89,17 +116,20 @@ class Rows(Sequence[Row]):
         return f"<Rows of {len(self)} nodes>"
 
 
-class Node:
+class Node(Generic[AnyText]):
     """A node of a parse tree: a rule that matched a part of the text.
 
     Iterating over a node gives its children, and `node[i]` is the child with that number. The first use of `node[i]` or
     `len(node)` takes time linear in the number of children, and later ones take constant time. Two nodes are equal if
     they are the same node of the same match.
+
+    `start`, `end` and `column` count characters if the text was given as `str`, and bytes otherwise. `byte_start` and
+    `byte_end` count bytes. Of a match of `str`, `text[node.start:node.end]` is `node.text`.
     """
 
     __slots__ = ("_match", "_number")
 
-    def __init__(self, match: "Match", number: int) -> None:
+    def __init__(self, match: Match[AnyText], number: int) -> None:
         self._match = match
         self._number = number
 
@@ -111,18 +141,37 @@ class Node:
     @property
     def rule(self) -> str:
         """The name of the rule."""
-        match = self._match
-        return match.grammar.rules[match._words[WORDS * self._number]]
+        return self._match.grammar.rules[self._match._words[WORDS * self._number]]
 
     @property
     def start(self) -> int:
+        """The position where the rule began to match."""
+        return self._match._text.position(self.byte_start)
+
+    @property
+    def end(self) -> int:
+        """The position after what the rule matched."""
+        return self._match._text.position(self.byte_end)
+
+    @property
+    def byte_start(self) -> int:
         """The offset of the first byte that the rule matched."""
         return self._match._words[WORDS * self._number + START]
 
     @property
-    def end(self) -> int:
+    def byte_end(self) -> int:
         """The offset after the last byte that the rule matched."""
         return self._match._words[WORDS * self._number + END]
+
+    @property
+    def line(self) -> int:
+        """The line of `start`, from 1. The first use in a text takes time linear in it."""
+        return self._match._text.place(self.byte_start)[0]
+
+    @property
+    def column(self) -> int:
+        """The column of `start`, from 1. The first use in a text takes time linear in it."""
+        return self._match._text.place(self.byte_start)[1]
 
     @property
     def level(self) -> int:
@@ -135,52 +184,53 @@ class Node:
         return self._match._words[WORDS * self._number + SIZE]
 
     @property
-    def bytes(self) -> bytes:
+    def bytes(self) -> Bytes:
         """The bytes that the rule matched."""
-        return self._match.data[self.start : self.end]
+        return self._match.data[self.byte_start : self.byte_end]
 
     @property
-    def text(self) -> Union[str, bytes]:
-        """What the rule matched: `str` if the text was given as `str`, otherwise `bytes`."""
-        return self._match._as_given(self.bytes)
+    def text(self) -> AnyText:
+        """What the rule matched: `str` if the text was given as `str`, otherwise `bytes`.
+
+        A rule may match a part of a character. In a `str`, the character belongs to the node that has its first byte.
+        """
+        return self._match._text.part(self.byte_start, self.byte_end)
 
     @property
-    def children(self) -> List["Node"]:
+    def children(self) -> List[Node[AnyText]]:
         """The nodes of the rules that this rule called, in order."""
         return list(self)
 
     @property
-    def match(self) -> "Match":
+    def match(self) -> Match[AnyText]:
         """The match that the node belongs to."""
         return self._match
 
     @property
-    def parent(self) -> Optional["Node"]:
+    def parent(self) -> Optional[Node[AnyText]]:
         """The node above this one; `None` for the root. The first use takes time linear in the tree."""
         return Node(self._match, self._match._parents()[self._number]) if self._number else None
 
-    def walk(self) -> Iterator["Node"]:
+    def walk(self) -> Iterator[Node[AnyText]]:
         """The nodes of the subtree in preorder, this one first."""
         match = self._match
         return (Node(match, number) for number in range(self._number, self._number + self.size))
 
-    def find(self, rule: str) -> Optional["Node"]:
+    def find(self, rule: str) -> Optional[Node[AnyText]]:
         """The first node of a rule below this one, in preorder; `None` if there is none.
 
         Raises `NoSuchRuleError` if no rule has the name.
         """
         return next(self.find_all(rule), None)
 
-    def find_all(self, rule: str) -> Iterator["Node"]:
+    def find_all(self, rule: str) -> Iterator[Node[AnyText]]:
         """All nodes of a rule below this one, in preorder. Raises `NoSuchRuleError` if no rule has the name."""
-        match, rules = self._match, self._match.grammar.rules
-        if rule not in rules:
-            raise NoSuchRuleError(f"no rule has the name {rule}")
-        wanted, words = rules.index(rule), match._words
+        match = self._match
+        wanted, words = match._number_of(rule), match._words
         numbers = range(self._number + 1, self._number + self.size)
         return (Node(match, number) for number in numbers if words[WORDS * number] == wanted)
 
-    def __iter__(self) -> Iterator["Node"]:
+    def __iter__(self) -> Iterator[Node[AnyText]]:
         match, number = self._match, self._number + 1
         end = self._number + self.size
         while number < end:
@@ -190,16 +240,16 @@ class Node:
     def __len__(self) -> int:
         return len(self._match._children_of(self._number))
 
-    def __bool__(self) -> bool:
+    def __bool__(self) -> Literal[True]:
         return True
 
     @overload
-    def __getitem__(self, index: int) -> "Node": ...
+    def __getitem__(self, index: int) -> Node[AnyText]: ...
 
     @overload
-    def __getitem__(self, index: slice) -> List["Node"]: ...
+    def __getitem__(self, index: slice) -> List[Node[AnyText]]: ...
 
-    def __getitem__(self, index: Union[int, slice]) -> Union["Node", List["Node"]]:
+    def __getitem__(self, index: Union[int, slice]) -> Union[Node[AnyText], List[Node[AnyText]]]:
         numbers = self._match._children_of(self._number)[index]
         if isinstance(numbers, array.array):
             return [Node(self._match, number) for number in numbers]
@@ -238,30 +288,36 @@ class Node:
         return "\n".join(shown)
 
     def _shown(self, width: int) -> str:
-        """What the rule matched, cut to a width. Only the bytes that are shown are looked at."""
-        part = self._match._as_given(self._match.data[self.start : min(self.end, self.start + 4 * width)])
-        text = repr(part)
-        is_cut = len(text) > width or self.end - self.start > 4 * width
+        """What the rule matched, cut to a width. Only the part that is shown is looked at."""
+        start, end = self.byte_start, self.byte_end
+        text = repr(self._match._text.part(start, min(end, start + 4 * width)))
+        is_cut = len(text) > width or end - start > 4 * width
         return text[: width - 3] + "..." if is_cut else text
 
 
-class _Answer:
+class _Answer(Generic[AnyText]):
     """What matches and failures have in common."""
 
-    def __init__(
-        self, grammar: "Grammar", given: Union[str, bytes], data: bytes, raw: RawAnswer, options: "Options"
-    ) -> None:
+    def __init__(self, grammar: Grammar, request: Request, raw: RawAnswer) -> None:
         self.grammar = grammar
-        self._options = options
-        # The text as bytes. All offsets count these.
-        self.data = data
-        # The greatest offset at which a terminal failed, or 0 if none failed.
-        self.far: int = raw.summary.furthest
+        self._request = request
+        self._raw = raw
+        self._text: Text[AnyText] = request.text
+        # How errors call the text.
+        self.name = request.name
+        # The whole text as bytes.
+        self.data: bytes = request.text.data
+        # The greatest offset in bytes at which a terminal failed, or where the parse began if none failed.
+        self.byte_far: int = raw.furthest
         # The number of steps of the parse.
-        self.steps: int = raw.summary.steps
+        self.steps: int = raw.steps
         # The terminals that failed at `far`, as their offsets in the grammar file.
-        self.expected_spans: List[Tuple[int, int]] = [(span.start, span.end) for span in raw.expected]
-        self._is_text = isinstance(given, str)
+        self.expected_spans: List[Tuple[int, int]] = raw.expected
+
+    @property
+    def far(self) -> int:
+        """The greatest position at which a terminal failed, or where the parse began if none failed."""
+        return self._text.position(self.byte_far)
 
     @property
     def expected(self) -> List[str]:
@@ -269,78 +325,108 @@ class _Answer:
         items = (self._written(start, end) for start, end in self.expected_spans)
         return _each_once("the end" if item == "[]" else item for item in items)
 
-    def error(self, name: str = "<text>") -> ParseError:
+    def line_column(self, position: int) -> Tuple[int, int]:
+        """The line and the column of a position of the text, both from 1. LF, CR LF and CR end lines.
+
+        Position and column count characters if the text was given as `str`, and bytes otherwise. The first use takes
+        time linear in the text. Raises `ValueError` if the text has no such position.
+        """
+        return self._text.line_column(position)
+
+    def error(self, name: Optional[str] = None) -> ParseError:
         """The error that `Grammar.parse` raises if the text isn't matched as a whole.
 
         It is at the furthest failure outside predicates, or at the end of the match if that is further. The parse that
         finds it counts predicates as items, and takes more steps than `Grammar.match`. If it takes more than the limit
-        of steps, the error is at the furthest failure of this answer, which predicates may have moved.
+        of steps, the error is at the furthest failure of this answer, which predicates may have moved. `name` is how it
+        calls the text, by default the name that the parse was given.
         Raises `ValueError` if the text is matched as a whole.
         """
-        consumed = self.consumed if isinstance(self, Match) else None
-        if consumed == len(self.data):
+        if self._end() == len(self.data):
             raise ValueError("the text is matched as a whole")
-        encoded = shown_name(name).encode("utf-8")
+        request = self._request
         try:
-            raw = self.grammar._explain(encoded, self.data, self._options)
+            raw = self.grammar._explain(self.data, request.first, request.options)
         except StepLimitError:
-            return self._furthest_error(encoded, consumed)
-        items = [_item(self._written(span.start, span.end)) for span in raw.expected]
-        expected = _each_once(items + ["the end"] * raw.mismatch.end_expected)
-        return ParseError(raw.message, encoded, self.data, raw.mismatch.position, expected, consumed, self.far)
+            return self._furthest_error(name or self.name)
+        items = [_item(self._written(start, end)) for start, end in raw.expected]
+        expected = _each_once(items + ["the end"] * raw.end_expected)
+        return self._error_at(request.first + raw.position, raw.sentence, expected, name or self.name)
 
-    def _furthest_error(self, name: bytes, consumed: Optional[int]) -> ParseError:
+    def _furthest_error(self, name: str) -> ParseError:
         """The error at the furthest failure, or at the end of the match if that is further."""
-        position = max(self.far, consumed or 0)
-        expected = self.expected if position == self.far else []
-        expected = _each_once(expected + ["the end"] * (position == consumed))
-        message = message_at(name, self.data, position, expected)
-        return ParseError(message, name, self.data, position, expected, consumed, self.far)
+        end = self._end()
+        offset = self.byte_far if end is None else max(self.byte_far, end)
+        expected = self.expected if offset == self.byte_far else []
+        expected = _each_once(expected + ["the end"] * (offset == end))
+        return self._error_at(offset, sentence_of(self.data, offset, expected), expected, name)
+
+    def _error_at(self, offset: int, sentence: str, expected: List[str], name: str) -> ParseError:
+        """An error at an offset in bytes."""
+        return ParseError(sentence, self._text, offset, name, expected, self._length(), self.far)
+
+    def _end(self) -> Optional[int]:
+        """The offset in bytes after what matched; `None` if nothing did."""
+        return None
+
+    def _length(self) -> Optional[int]:
+        """The length of what matched; `None` if nothing did."""
+        return None
 
     def _written(self, start: int, end: int) -> str:
         """A part of the grammar file."""
         return self.grammar.source[start:end].decode("utf-8", "replace")
 
-    def _as_given(self, part: bytes) -> Union[str, bytes]:
-        return part.decode("utf-8", "replace") if self._is_text else part
-
     def _spans_json(self) -> str:
         return ",".join(f"[{start},{end}]" for start, end in self.expected_spans)
 
 
-class Failure(_Answer):
-    """No prefix of the text is matched. A failure is false in conditions."""
+class Failure(_Answer[AnyText]):
+    """No part of the text from the position of the parse on is matched. A failure is false in conditions.
 
-    def __bool__(self) -> bool:
+    Besides what `help` shows below, it has `grammar`, `name`, `data`, `byte_far`, `steps` and `expected_spans`, which are those of a `Match`.
+    """
+
+    def __bool__(self) -> Literal[False]:
         return False
 
     def to_json(self) -> str:
-        """The line that `pegtool parse` prints."""
-        return f'{{"expected":[{self._spans_json()}],"far":{self.far},"result":"failed"}}'
+        """The line that `pegtool parse` prints. Its offsets count bytes."""
+        return f'{{"expected":[{self._spans_json()}],"far":{self.byte_far},"result":"failed"}}'
 
     def __repr__(self) -> str:
         return f"<Failure at {self.far}>"
 
 
-class Match(_Answer):
-    """A prefix of the text is matched. A match is true in conditions.
+class Match(_Answer[AnyText]):
+    """A part of the text is matched, from `start` to `end`. A match is true in conditions.
 
-    `rows` has all nodes, and `root` is the node of the start rule.
+    `rows` has all nodes, and `root` is the node of the start rule. Positions and lengths count characters if the text
+    was given as `str`, and bytes otherwise; those that begin with `byte_` count bytes.
+
+    Besides what `help` shows below, it has `grammar`; `name`, which is how errors call the text; `data`, the whole text
+    as bytes; `byte_start`, `byte_end`, `byte_consumed` and `byte_far`; `steps`, the number of steps of the parse; and
+    `expected_spans`, the terminals that failed at `far`, as pairs of offsets in the grammar file.
     """
 
-    def __init__(
-        self, grammar: "Grammar", given: Union[str, bytes], data: bytes, raw: RawAnswer, options: "Options"
-    ) -> None:
-        super().__init__(grammar, given, data, raw, options)
-        # The length of the prefix, in bytes.
-        self.consumed: int = raw.summary.consumed
-        self._words = memoryview(raw.nodes).cast("B").cast("I")
+    def __init__(self, grammar: Grammar, request: Request, raw: RawAnswer) -> None:
+        super().__init__(grammar, request, raw)
+        # The offset in bytes where the parse began.
+        self.byte_start: int = request.first
+        # The length of what matched, in bytes.
+        self.byte_consumed: int = raw.consumed
+        # The offset in bytes after what matched.
+        self.byte_end: int = request.first + raw.consumed
+        self._words = raw.nodes
         self._parent_numbers: Optional[array.array[int]] = None
         # The numbers of the children of the nodes that were asked for.
         self._child_numbers: Dict[int, array.array[int]] = {}
 
+    def __bool__(self) -> Literal[True]:
+        return True
+
     @property
-    def root(self) -> Node:
+    def root(self) -> Node[AnyText]:
         """The node of the start rule."""
         return Node(self, 0)
 
@@ -350,29 +436,45 @@ class Match(_Answer):
         return Rows(self)
 
     @property
-    def text(self) -> Union[str, bytes]:
-        """The prefix that matched: `str` if the text was given as `str`, otherwise `bytes`."""
-        return self._as_given(self.data[: self.consumed])
+    def start(self) -> int:
+        """The position where the parse began: the option `pos`, by default 0."""
+        return self._text.position(self.byte_start)
+
+    @property
+    def end(self) -> int:
+        """The position after what matched."""
+        return self._text.position(self.byte_end)
+
+    @property
+    def consumed(self) -> int:
+        """The length of what matched."""
+        return self.end - self.start
+
+    @property
+    def text(self) -> AnyText:
+        """What matched: `str` if the text was given as `str`, otherwise `bytes`."""
+        return self._text.part(self.byte_start, self.byte_end)
 
     @property
     def is_whole(self) -> bool:
-        """Whether all of the text is matched."""
-        return self.consumed == len(self.data)
+        """Whether all of the text is matched, from `start` on."""
+        return self.byte_end == len(self.data)
 
     def to_json(self, rows: bool = False) -> str:
-        """The line that `pegtool parse` prints, with `rows` that of `pegtool parse --rows`.
+        """The line that `pegtool parse` prints, with `rows` that of `pegtool parse --rows`. Its offsets count bytes.
 
         Raises `ValueError` if the tree has too many levels to be nested.
         """
-        head = f'{{"consumed":{self.consumed},"expected":[{self._spans_json()}],"far":{self.far},"result":"matched",'
-        return f"{head}{self._rows_json() if rows else self._tree_json()}}}"
+        members = [f'"consumed":{self.byte_consumed},"expected":[{self._spans_json()}],"far":{self.byte_far}']
+        members += ['"result":"matched"', self._rows_json() if rows else self._tree_json()]
+        return f"{{{','.join(members)}}}"
 
     def _rows_json(self) -> str:
         rows = (f'[{row.level},"{row.rule}",{row.start},{row.end}]' for row in self.rows)
         return f'"rows":[{",".join(rows)}]'
 
     def _tree_json(self) -> str:
-        pieces = []
+        pieces: List[str] = []
         open_rows: List[Row] = []
         for row in self.rows:
             if row.level > MAX_LEVELS:
@@ -384,6 +486,19 @@ class Match(_Answer):
             open_rows.append(row)
         pieces.extend(_closed(row) for row in reversed(open_rows))
         return '"tree":' + "".join(pieces)
+
+    def _end(self) -> Optional[int]:
+        return self.byte_end
+
+    def _length(self) -> Optional[int]:
+        return self.consumed
+
+    def _number_of(self, rule: str) -> int:
+        """The number of a rule. Raises `NoSuchRuleError` if no rule has the name."""
+        rules = self.grammar.rules
+        if rule not in rules:
+            raise NoSuchRuleError(f"no rule has the name {rule}")
+        return rules.index(rule)
 
     def _children_of(self, number: int) -> array.array[int]:
         """The numbers of the children of a node."""
@@ -405,7 +520,7 @@ class Match(_Answer):
         return self._parent_numbers
 
     def __repr__(self) -> str:
-        return f"<Match of {self.consumed} bytes, {len(self.rows)} nodes>"
+        return f"<Match of {self.byte_consumed} bytes, {len(self.rows)} nodes>"
 
 
 def _each_once(items: Iterable[str]) -> List[str]:

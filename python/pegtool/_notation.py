@@ -1,7 +1,7 @@
 """The structure of grammar files: each rule's expression, read by a grammar of the notation."""
 
 from dataclasses import dataclass
-from typing import Dict, FrozenSet, List, Optional, Tuple, Union
+from typing import Any, Dict, FrozenSet, List, Optional, Tuple, Union
 
 from ._grammar import Grammar
 from ._match import Node
@@ -79,53 +79,55 @@ Expression = Union[Terminal, Name, Sequence, Choice, Repeat, Predicate]
 class _Reader(Visitor):
     """Makes expressions from the nodes of the notation's tree."""
 
-    def visit_Grammar(self, node: Node, values: List) -> Dict[str, Expression]:
+    def visit_Grammar(self, node: Node[str], values: List[Optional[Tuple[str, Expression]]]) -> Dict[str, Expression]:
         return dict(value for value in values if value is not None)
 
-    def visit_Definition(self, node: Node, values: List) -> Tuple[str, Expression]:
+    def visit_Definition(self, node: Node[str], values: List[Any]) -> Tuple[str, Expression]:
         name, *_, expression = values
         return name.rule, expression
 
-    def visit_Expression(self, node: Node, values: List) -> Expression:
+    def visit_Expression(self, node: Node[str], values: List[Optional[Expression]]) -> Expression:
         items = tuple(value for value in values if value is not None)
         return items[0] if len(items) == 1 else Choice(items)
 
-    def visit_Sequence(self, node: Node, values: List) -> Expression:
+    def visit_Sequence(self, node: Node[str], values: List[Expression]) -> Expression:
         return values[0] if len(values) == 1 else Sequence(tuple(values))
 
-    def visit_Prefix(self, node: Node, values: List) -> Expression:
-        return Predicate(*values) if len(values) == 2 else values[0]
+    def visit_Prefix(self, node: Node[str], values: List[Any]) -> Expression:
+        part: Expression = values[-1]
+        return Predicate(values[0], part) if len(values) == 2 else part
 
-    def visit_Sign(self, node: Node, values: List) -> str:
+    def visit_Sign(self, node: Node[str], values: List[Any]) -> str:
         return str(node.text)[0]
 
-    def visit_Suffix(self, node: Node, values: List) -> Expression:
-        return Repeat(values[0], *values[1]) if len(values) == 2 else values[0]
+    def visit_Suffix(self, node: Node[str], values: List[Any]) -> Expression:
+        part: Expression = values[0]
+        return Repeat(part, *values[1]) if len(values) == 2 else part
 
-    def visit_Mark(self, node: Node, values: List) -> Tuple[int, Optional[int]]:
+    def visit_Mark(self, node: Node[str], values: List[Any]) -> Tuple[int, Optional[int]]:
         mark = str(node.text).strip()
         if mark[0] != "{":
             return {"?": (0, 1), "*": (0, None), "+": (1, None)}[mark[0]]
         bounds = mark[1 : mark.index("}")].split(",")
         return int(bounds[0]), int(bounds[-1])
 
-    def visit_Primary(self, node: Node, values: List) -> Expression:
+    def visit_Primary(self, node: Node[str], values: List[Optional[Expression]]) -> Expression:
         (expression,) = (value for value in values if value is not None)
         return expression
 
-    def visit_Identifier(self, node: Node, values: List) -> Name:
+    def visit_Identifier(self, node: Node[str], values: List[Name]) -> Name:
         return values[0]
 
-    def visit_Word(self, node: Node, values: List) -> Name:
+    def visit_Word(self, node: Node[str], values: List[Any]) -> Name:
         return Name(str(node.text))
 
-    def visit_Terminal(self, node: Node, values: List) -> Terminal:
+    def visit_Terminal(self, node: Node[str], values: List[Terminal]) -> Terminal:
         return values[0]
 
-    def visit_Written(self, node: Node, values: List) -> Terminal:
+    def visit_Written(self, node: Node[str], values: List[Any]) -> Terminal:
         return Terminal(str(node.text))
 
-    def generic_visit(self, node: Node, values: List) -> None:
+    def generic_visit(self, node: Node[str], values: List[Any]) -> None:
         return None
 
 
@@ -146,4 +148,5 @@ def leaves(grammar: Grammar) -> FrozenSet[str]:
 def expressions(grammar: Grammar) -> Dict[str, Expression]:
     """The expression of each rule of a grammar, in order."""
     text = grammar.source.decode("utf-8", "replace")
-    return _Reader().visit(Grammar(NOTATION, name="notation").parse(text))
+    rules: Dict[str, Expression] = _Reader().visit(Grammar(NOTATION, name="notation").parse(text))
+    return rules

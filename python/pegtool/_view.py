@@ -2,7 +2,7 @@
 
 import json
 from html import escape
-from typing import List, Optional, Union
+from typing import Any, List, Optional, Union
 
 from ._errors import ParseError, shown, shown_name
 from ._grammar import Grammar
@@ -71,7 +71,7 @@ document.body.dataset.ready = 'yes';
 SHOWN_BYTES = 40
 
 
-def text_html(data: bytes, match: Optional[Match], fault: Optional[int]) -> str:
+def text_html(data: bytes, match: Optional[Match[Any]], fault: Optional[int]) -> str:
     """The text in spans, each with the number of the innermost node that it belongs to."""
     cuts = {0, len(data)}
     if match:
@@ -80,7 +80,7 @@ def text_html(data: bytes, match: Optional[Match], fault: Optional[int]) -> str:
     if fault is not None:
         cuts.update((fault, min(fault + 1, len(data))))
     places = sorted(cuts)
-    owners = innermost(match, places) if match else [None] * len(places)
+    owners: List[Optional[int]] = innermost(match, places) if match else [None] * len(places)
     pieces = []
     for start, end, owner in zip(places, places[1:], owners):
         inside = escape(data[start:end].decode("utf-8", "replace"))
@@ -92,7 +92,7 @@ def text_html(data: bytes, match: Optional[Match], fault: Optional[int]) -> str:
     return "".join(pieces)
 
 
-def innermost(match: Match, places: List[int]) -> List[Optional[int]]:
+def innermost(match: Match[Any], places: List[int]) -> List[Optional[int]]:
     """For each place the number of the innermost node that begins there or before and ends after it."""
     owners: List[Optional[int]] = []
     open_nodes: List[int] = []
@@ -111,7 +111,7 @@ def innermost(match: Match, places: List[int]) -> List[Optional[int]]:
     return owners
 
 
-def tree_html(match: Match) -> str:
+def tree_html(match: Match[Any]) -> str:
     """A line for each node."""
     lines = []
     for number, row in enumerate(match.rows):
@@ -130,7 +130,7 @@ def diagrams_html(grammar: Grammar) -> str:
     return "".join(parts)
 
 
-def data_js(match: Optional[Match]) -> str:
+def data_js(match: Optional[Match[Any]]) -> str:
     """The nodes, for the script of the page."""
     if not match:
         return "const names = [], rules = [], sizes = [], parents = [];"
@@ -146,13 +146,13 @@ def data_js(match: Optional[Match]) -> str:
     return "".join(f"const {name} = {json.dumps(values)};" for name, values in lists.items())
 
 
-def page(grammar: Grammar, answer: Union[Match, Failure], title: str) -> str:
+def page(grammar: Grammar, answer: Union[Match[Any], Failure[Any]], title: str) -> str:
     """The whole page. It needs no other file."""
     match = answer if isinstance(answer, Match) else None
     error: Optional[ParseError] = None if match and match.is_whole else answer.error(title)
     message = f'<pre class="message">{escape(str(error))}</pre>' if error else ""
     result = f"{len(match.rows)} nodes" if match else "no match"
-    text = text_html(answer.data, match, error.position if error else None)
+    text = text_html(answer.data, match, error.byte_position if error else None)
     tree = tree_html(match) if match else ""
     return f"""<!DOCTYPE html>
 <html lang="en">

@@ -25,14 +25,14 @@ class Visitor:
     Trees of any depth can be visited: the calls aren't nested.
     """
 
-    def visit(self, of: Union[Match, Node]) -> Any:
+    def visit(self, of: Union[Match[Any], Node[Any]]) -> Any:
         """The value of a node, or of a match's root. Raises `NoSuchRuleError` if a method `visit_RULE` fits no rule."""
         root = of.root if isinstance(of, Match) else of
         for method in (name for name in dir(self) if name.startswith("visit_")):
             if method[len("visit_") :] not in root.match.grammar.rules:
                 raise NoSuchRuleError(f"{type(self).__name__}.{method} fits no rule")
         # The nodes that are open, with the numbers after their subtrees and the values of their children so far.
-        open_nodes: List[Node] = []
+        open_nodes: List[Node[Any]] = []
         ends: List[int] = []
         values: List[List[Any]] = [[]]
         for node in root.walk():
@@ -45,18 +45,18 @@ class Visitor:
             self._close(open_nodes, ends, values)
         return values[0][0]
 
-    def _close(self, open_nodes: List[Node], ends: List[int], values: List[List[Any]]) -> None:
+    def _close(self, open_nodes: List[Node[Any]], ends: List[int], values: List[List[Any]]) -> None:
         node, of_children = open_nodes.pop(), values.pop()
         ends.pop()
         method = getattr(self, f"visit_{node.rule}", self.generic_visit)
         values[-1].append(method(node, of_children))
 
-    def generic_visit(self, node: Node, values: List[Any]) -> Any:
+    def generic_visit(self, node: Node[Any], values: List[Any]) -> Any:
         """The value of a node whose rule has no method: the list of its children's values, or its text if nodes of the
         rule never have children."""
         return node.text if not values and node.match.grammar.is_leaf(node.rule) else values
 
-    def only(self, node: Node, values: List[Any]) -> Any:
+    def only(self, node: Node[Any], values: List[Any]) -> Any:
         """The value of the only child. `visit_Group = Visitor.only` passes a child's value on."""
         (value,) = values
         return value

@@ -6,6 +6,8 @@ import unittest
 
 import pegtool
 import pegtool._grammar
+import pegtool._match
+import pegtool._text
 import pegtool._visitor
 
 TOP = os.path.abspath(os.path.join(os.path.dirname(__file__), os.pardir, os.pardir))
@@ -13,10 +15,12 @@ GUIDES = [os.path.join(TOP, name) for name in ("README.md", os.path.join("docs",
 
 
 def load_tests(loader, tests, pattern):
-    for module in (pegtool, pegtool._grammar, pegtool._visitor):
+    for module in (pegtool, pegtool._grammar, pegtool._match, pegtool._text, pegtool._visitor):
         tests.addTests(doctest.DocTestSuite(module, optionflags=doctest.IGNORE_EXCEPTION_DETAIL))
     tests.addTests(
-        doctest.DocFileSuite(*GUIDES, module_relative=False, optionflags=doctest.IGNORE_EXCEPTION_DETAIL)
+        doctest.DocFileSuite(
+            *GUIDES, module_relative=False, optionflags=doctest.IGNORE_EXCEPTION_DETAIL, encoding="utf-8"
+        )
     )
     return tests
 

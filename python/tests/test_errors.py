@@ -95,6 +95,7 @@ class Steps(unittest.TestCase):
         self.assertEqual(str(error), "t.txt:1:3: expected 'x', 'a' or 'b', found 'c'\naac\n  ^")
         self.assertEqual((error.position, error.line, error.column, error.consumed), (2, 1, 3, None))
         self.assertEqual(error.expected, ["'x'", "'a'", "'b'"])
+        self.assertTrue(str(grammar.match("aac", memo=0, steps=steps).error("u.txt")).startswith("u.txt:1:3: "))
         self.assertEqual(error_of(grammar.parse, "aac", memo=0).expected, ["!'x'", "'a'", "'b'"][1:])
 
     def test_the_end_is_expected_after_a_prefix(self):

@@ -184,9 +184,9 @@ class Parses(unittest.TestCase):
             self.assertRaises(ValueError, chain.parse, "b", **options)
         self.assertRaises(TextTooLongError, chain.parse, b"a" * 67_108_865)
 
-    def test_str_is_encoded_and_offsets_count_bytes(self):
+    def test_str_is_encoded_and_buffers_are_bytes(self):
         match = Grammar("S <- ('ü' / [a-z])*\n").parse("aüb")
-        self.assertEqual((match.consumed, match.text), (4, "aüb"))
+        self.assertEqual((match.byte_consumed, match.data, match.text), (4, "aüb".encode("utf-8"), "aüb"))
         self.assertEqual(Grammar("S <- .*\n").parse(b"\xff\x00").text, b"\xff\x00")
         self.assertEqual(Grammar("S <- .*\n").parse(bytearray(b"ab")).text, b"ab")
 

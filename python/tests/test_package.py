@@ -4,12 +4,14 @@ import base64
 import csv
 import hashlib
 import importlib.util
+import inspect
 import io
 import os
 import pathlib
 import subprocess
 import sys
 import tempfile
+import typing
 import unittest
 import zipfile
 
@@ -36,6 +38,18 @@ class Version(unittest.TestCase):
         words = [sys.executable, "-m", "pegtool", "--version"]
         printed = subprocess.run(words, env=environment, capture_output=True, text=True, check=True).stdout
         self.assertEqual(printed, f"pegtool {pegtool.__version__}\n")
+
+
+class Annotations(unittest.TestCase):
+    def test_annotations_can_be_read(self):
+        kinds = (pegtool.Grammar, pegtool.Match, pegtool.Failure, pegtool.Node, pegtool.Text, pegtool.Rows)
+        read = 0
+        for kind in (*kinds, pegtool.Visitor):
+            for name, member in inspect.getmembers(kind):
+                function = member.fget if isinstance(member, property) else member
+                if inspect.isroutine(function) and not name.startswith("_"):
+                    read += bool(typing.get_type_hints(function))
+        self.assertGreater(read, 40)
 
 
 @unittest.skipUnless(backend().LIBRARY.exists(), "out/lib/libpeg.so.1 isn't built")
