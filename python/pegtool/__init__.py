@@ -18,6 +18,7 @@ proved of the library that this package calls. This package itself is tested.
 
 from ._errors import (
     GrammarError,
+    NodeError,
     NoSuchRuleError,
     ParseError,
     PegError,
@@ -39,6 +40,7 @@ __all__ = [
     "GrammarError",
     "Match",
     "Node",
+    "NodeError",
     "NoSuchRuleError",
     "ParseError",
     "PegError",

@@ -62,7 +62,7 @@ class GrammarError(PegError):
 
 
 class TextError(PegError):
-    """An error at a position of a text: the base of `ParseError`.
+    """An error at a position of a text: the base of `ParseError` and `NodeError`.
 
     `message` says what is wrong. `position` is where, from 0; `line` and `column` are the same, both from 1. Position
     and column count characters if the text was given as `str`, and bytes otherwise; `byte_position` counts bytes.
@@ -102,6 +102,17 @@ class ParseError(TextError):
         self.consumed = consumed
         self.far = far
         self.found: str = message.rpartition(", found ")[2]
+
+
+class NodeError(TextError):
+    """An error that a program reports at a node: `raise node.error("the value is over 10")`.
+
+    Besides the attributes of `TextError`, `rule` is the rule of the node.
+    """
+
+    def __init__(self, message: str, text: Text[Any], byte_position: int, name: str, rule: str) -> None:
+        super().__init__(message, text, byte_position, name)
+        self.rule = rule
 
 
 class NoSuchRuleError(PegError, ValueError):

@@ -21,7 +21,7 @@ from typing import (
     overload,
 )
 
-from ._errors import NoSuchRuleError, ParseError, StepLimitError, sentence_of
+from ._errors import NodeError, NoSuchRuleError, ParseError, StepLimitError, sentence_of
 from ._library import Options, RawAnswer
 from ._packed import END, LEVEL, RULE, SIZE, START, WORDS
 from ._text import AnyText, Text
@@ -216,12 +216,21 @@ class Node(Generic[AnyText]):
         match = self._match
         return (Node(match, number) for number in range(self._number, self._number + self.size))
 
-    def find(self, rule: str) -> Optional[Node[AnyText]]:
+    @overload
+    def find(self, rule: str, *, required: Literal[False] = ...) -> Optional[Node[AnyText]]: ...
+
+    @overload
+    def find(self, rule: str, *, required: Literal[True]) -> Node[AnyText]: ...
+
+    def find(self, rule: str, *, required: bool = False) -> Optional[Node[AnyText]]:
         """The first node of a rule below this one, in preorder; `None` if there is none.
 
-        Raises `NoSuchRuleError` if no rule has the name.
+        Raises `NoSuchRuleError` if no rule has the name, and `NodeError` if a node is required and there is none.
         """
-        return next(self.find_all(rule), None)
+        found = next(self.find_all(rule), None)
+        if found is None and required:
+            raise self.error(f"this {self.rule} has no {rule}")
+        return found
 
     def find_all(self, rule: str) -> Iterator[Node[AnyText]]:
         """All nodes of a rule below this one, in preorder. Raises `NoSuchRuleError` if no rule has the name."""
@@ -229,6 +238,13 @@ class Node(Generic[AnyText]):
         wanted, words = match._number_of(rule), match._words
         numbers = range(self._number + 1, self._number + self.size)
         return (Node(match, number) for number in numbers if words[WORDS * number] == wanted)
+
+    def error(self, message: str, name: Optional[str] = None) -> NodeError:
+        """An error at this node, which a program raises: it shows the name of the text, line, column and message, and
+        the line of the text with a caret. `name` is how it calls the text, by default the name that the parse was
+        given."""
+        match = self._match
+        return NodeError(message, match._text, self.byte_start, name or match.name, self.rule)
 
     def __iter__(self) -> Iterator[Node[AnyText]]:
         match, number = self._match, self._number + 1

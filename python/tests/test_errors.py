@@ -12,7 +12,16 @@ import sys
 import tempfile
 import unittest
 
-from pegtool import Grammar, GrammarError, NoSuchRuleError, ParseError, StepLimitError
+from pegtool import (
+    Grammar,
+    GrammarError,
+    NodeError,
+    NoSuchRuleError,
+    ParseError,
+    PegError,
+    StepLimitError,
+    TextError,
+)
 
 CHAIN = "S <- 'a' S / 'b'\n"
 PACKAGE = pathlib.Path(__file__).resolve().parent.parent
@@ -103,6 +112,39 @@ class Steps(unittest.TestCase):
         steps = grammar.match("a\xfcc", memo=0).steps
         error = error_of(grammar.parse, "a\xfcc", memo=0, steps=steps)
         self.assertEqual((error.expected, error.found, error.consumed), (["the end"], "'\xfc'", 1))
+
+
+class Nodes(unittest.TestCase):
+    # Bytes over 127 are letters.
+    GRAMMAR = "Pairs <- Pair*\nPair <- Key '=' Value '\\n'\nKey <- [a-z\\x80-\\xFF]+\nValue <- [0-9]+\n"
+
+    def error(self, text, **options):
+        """An error at the last value of a text."""
+        *_, value = Grammar(self.GRAMMAR).parse(text, **options).root.find_all("Value")
+        return value.error(f"{int(value.text)} is over 10")
+
+    def test_an_error_at_a_node_reads_like_a_syntax_error(self):
+        error = self.error("a=1\n\xfc\xfc=11\n", name="pairs.txt")
+        self.assertEqual(str(error), "pairs.txt:2:4: 11 is over 10\n\xfc\xfc=11\n   ^")
+        self.assertEqual((error.line, error.column, error.position, error.byte_position), (2, 4, 7, 9))
+        self.assertEqual((error.message, error.rule), ("11 is over 10", "Value"))
+
+    def test_an_error_at_a_node_of_bytes_counts_bytes(self):
+        error = self.error("a=1\n\xfc\xfc=11\n".encode("utf-8"), name="pairs.txt")
+        self.assertEqual(str(error), "pairs.txt:2:6: 11 is over 10\n\xfc\xfc=11\n   ^")
+        self.assertEqual((error.line, error.column, error.position, error.byte_position), (2, 6, 9, 9))
+
+    def test_the_text_may_have_another_name(self):
+        root = Grammar(self.GRAMMAR).parse("a=1\n", name="pairs.txt").root
+        self.assertEqual(str(root.error("bad")), "pairs.txt:1:1: bad\na=1\n^")
+        self.assertEqual(str(root.error("bad", "other.txt")), "other.txt:1:1: bad\na=1\n^")
+        self.assertEqual(str(self.error("a=1\n")), "<text>:1:3: 1 is over 10\na=1\n  ^")
+
+    def test_errors_of_texts_have_a_base(self):
+        self.assertIsInstance(self.error("a=1\n"), TextError)
+        for kind in (ParseError, NodeError):
+            self.assertTrue(issubclass(kind, TextError) and issubclass(kind, PegError))
+        self.assertFalse(issubclass(GrammarError, TextError))
 
 
 class Places(unittest.TestCase):

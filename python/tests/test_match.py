@@ -3,7 +3,7 @@
 import struct
 import unittest
 
-from pegtool import Grammar, Row, Rows
+from pegtool import Grammar, NodeError, NoSuchRuleError, Row, Rows
 
 CHAIN = "S <- 'a' S / 'b'\n"
 SUM = "Sum <- Product ('+' Product)*\nProduct <- Number ('*' Number)*\nNumber <- [0-9]+\n"
@@ -50,6 +50,13 @@ class Nodes(unittest.TestCase):
         self.assertEqual(self.root[1].find("Number").text, "3")
         self.assertIsNone(self.root.find("Sum"))
         self.assertRaises(ValueError, self.root.find, "Other")
+
+    def test_a_required_node_is_found_or_an_error(self):
+        self.assertEqual(self.root[1].find("Number", required=True), self.root[1][0])
+        with self.assertRaises(NodeError) as caught:
+            self.root[1].find("Sum", required=True)
+        self.assertEqual(str(caught.exception), "<text>:1:3: this Product has no Sum\n2+3*45\n  ^")
+        self.assertRaises(NoSuchRuleError, self.root.find, "Other", required=True)
 
     def test_nodes_are_shown(self):
         self.assertEqual(repr(self.root[1]), "<Product 2..6>")
