@@ -6,7 +6,7 @@ import json
 import operator
 import os
 import threading
-from typing import Any, FrozenSet, Optional, Tuple, Union, overload
+from typing import Any, FrozenSet, Iterable, Optional, Tuple, Union, overload
 
 from ._errors import GrammarError, NoSuchRuleError, StepLimitError, TextTooLongError
 from ._library import (
@@ -20,7 +20,7 @@ from ._library import (
     RawExplanation,
 )
 from ._match import Failure, Match, Request
-from ._packed import shifted
+from ._packed import selected, shifted
 from ._text import Buffer, Text, text_of
 
 # The capacity of the memo that pegtool uses if none is given.
@@ -39,12 +39,13 @@ class Grammar:
     [<Number 0..1>, <Number 2..4>]
 
     `source` is the grammar file, as bytes or as `str`, which is encoded as UTF-8. `name` is how messages call it.
-    Raises `GrammarError` if the file is refused.
+    `hide` has names of rules whose nodes are left out of trees, if a parse doesn't say otherwise. Raises `GrammarError`
+    if the file is refused, and `NoSuchRuleError` if no rule has a name of `hide`.
 
     A grammar may be used by several threads at once: each of them has its own copy of the compiled grammar.
     """
 
-    def __init__(self, source: Union[str, Buffer], *, name: str = "<grammar>") -> None:
+    def __init__(self, source: Union[str, Buffer], *, name: str = "<grammar>", hide: Iterable[str] = ()) -> None:
         self._text = text_of(source)
         # The grammar file, as bytes.
         self.source: bytes = self._text.data
@@ -54,12 +55,14 @@ class Grammar:
         self._leaves: Optional[FrozenSet[str]] = None
         # The names of the rules, in order.
         self.rules: Tuple[str, ...] = self._handle().rules()
+        # The rules whose nodes are left out of trees, if a parse doesn't say otherwise.
+        self.hide: FrozenSet[str] = self.known_rules(hide, "hide")
 
     @classmethod
-    def from_file(cls, path: Union[str, os.PathLike[str]]) -> Grammar:
+    def from_file(cls, path: Union[str, os.PathLike[str]], *, hide: Iterable[str] = ()) -> Grammar:
         """The grammar in a file. Raises `OSError` if it can't be read, and `GrammarError` if it is refused."""
         with open(path, "rb") as file:
-            return cls(file.read(), name=os.fsdecode(path))
+            return cls(file.read(), name=os.fsdecode(path), hide=hide)
 
     @overload
     def parse(
@@ -70,6 +73,9 @@ class Grammar:
         pos: int = 0,
         memo: int = DEFAULT_MEMO,
         steps: Optional[int] = None,
+        show: Optional[Iterable[str]] = None,
+        hide: Optional[Iterable[str]] = None,
+        tree: bool = True,
         name: str = "<text>",
     ) -> Match[str]: ...
 
@@ -82,6 +88,9 @@ class Grammar:
         pos: int = 0,
         memo: int = DEFAULT_MEMO,
         steps: Optional[int] = None,
+        show: Optional[Iterable[str]] = None,
+        hide: Optional[Iterable[str]] = None,
+        tree: bool = True,
         name: str = "<text>",
     ) -> Match[bytes]: ...
 
@@ -93,6 +102,9 @@ class Grammar:
         pos: int = 0,
         memo: int = DEFAULT_MEMO,
         steps: Optional[int] = None,
+        show: Optional[Iterable[str]] = None,
+        hide: Optional[Iterable[str]] = None,
+        tree: bool = True,
         name: str = "<text>",
     ) -> Match[Any]:
         """Parses a whole text. Returns the match.
@@ -111,11 +123,18 @@ class Grammar:
         the memo, which changes no result. `steps` limits the parse, and the second one that finds what was expected.
         `name` is how errors call the text.
 
+        `show` has names of rules: the tree has the root and the nodes of these rules. `hide` has names of rules: the
+        tree has the root and all other nodes. The children of a node that is left out take its place. Without both,
+        `hide` of the grammar counts. `tree=False` makes no nodes at all.
+
         Raises `ParseError` if the text isn't matched as a whole. Raises `NoSuchRuleError` if no rule has the name of
-        the start, `StepLimitError` if more steps are needed, `TextTooLongError` for a text over the limit,
-        `MemoryError` if memory runs out, and `ValueError` if the text has no such position.
+        the start or a name of `show` or `hide`, `StepLimitError` if more steps are needed, `TextTooLongError` for a
+        text over the limit, `MemoryError` if memory runs out, and `ValueError` if the text has no such position or if
+        both `show` and `hide` are given.
         """
-        answer: Union[Match[Any], Failure[Any]] = self.match(data, start, pos=pos, memo=memo, steps=steps, name=name)
+        answer: Union[Match[Any], Failure[Any]] = self.match(
+            data, start, pos=pos, memo=memo, steps=steps, show=show, hide=hide, tree=tree, name=name
+        )
         if isinstance(answer, Failure) or not answer.is_whole:
             raise answer.error()
         return answer
@@ -129,6 +148,9 @@ class Grammar:
         pos: int = 0,
         memo: int = DEFAULT_MEMO,
         steps: Optional[int] = None,
+        show: Optional[Iterable[str]] = None,
+        hide: Optional[Iterable[str]] = None,
+        tree: bool = True,
         name: str = "<text>",
     ) -> Union[Match[str], Failure[str]]: ...
 
@@ -141,6 +163,9 @@ class Grammar:
         pos: int = 0,
         memo: int = DEFAULT_MEMO,
         steps: Optional[int] = None,
+        show: Optional[Iterable[str]] = None,
+        hide: Optional[Iterable[str]] = None,
+        tree: bool = True,
         name: str = "<text>",
     ) -> Union[Match[bytes], Failure[bytes]]: ...
 
@@ -152,6 +177,9 @@ class Grammar:
         pos: int = 0,
         memo: int = DEFAULT_MEMO,
         steps: Optional[int] = None,
+        show: Optional[Iterable[str]] = None,
+        hide: Optional[Iterable[str]] = None,
+        tree: bool = True,
         name: str = "<text>",
     ) -> Union[Match[Any], Failure[Any]]:
         """Parses a prefix of a text. Returns a `Match`, which is true, or a `Failure`, which is false.
@@ -165,14 +193,17 @@ class Grammar:
         aren't copied, so texts with many records can be parsed record by record. `str` is encoded in each call.
         """
         options = options_of(start, memo, steps)
+        hidden = self._hidden(show, hide)
         text = text_of(data)
         first = text.offset(operator.index(pos))
-        status, raw = self._handle().parse(text.data, first, options)
+        status, raw = self._handle().parse(text.data, first, options, tree)
         if raw is None:
             raise fault(status, options)
-        request = Request(text, first, options, name)
+        request = Request(text, first, options, hidden, tree, name)
         raw = shifted(raw, first)
-        return (Failure if status == FAILED else Match)(self, request, raw)
+        if status == FAILED:
+            return Failure(self, request, raw)
+        return Match(self, request, selected(raw, self._numbers(hidden)))
 
     def is_leaf(self, rule: str) -> bool:
         """Whether nodes of a rule never have children: the rule calls no other outside predicates. The first use takes
@@ -182,6 +213,28 @@ class Grammar:
 
             self._leaves = leaves(self)
         return rule in self._leaves
+
+    def _hidden(self, show: Optional[Iterable[str]], hide: Optional[Iterable[str]]) -> FrozenSet[str]:
+        """The names of the rules whose nodes are left out."""
+        if show is not None and hide is not None:
+            raise ValueError("show and hide can't be given together")
+        if show is not None:
+            return frozenset(self.rules) - self.known_rules(show, "show")
+        return self.hide if hide is None else self.known_rules(hide, "hide")
+
+    def known_rules(self, names: Iterable[str], option: str) -> FrozenSet[str]:
+        """The names of rules that an option lists. Raises `NoSuchRuleError` if no rule has one of them."""
+        if isinstance(names, (str, bytes)):
+            raise TypeError(f"{option} is a list of names, and not {type(names).__name__}")
+        wanted = list(names)
+        for name in wanted:
+            if name not in self.rules:
+                raise NoSuchRuleError(f"no rule has the name {name}")
+        return frozenset(wanted)
+
+    def _numbers(self, rules: Iterable[str]) -> FrozenSet[int]:
+        """The numbers of rules."""
+        return frozenset(map(self.rules.index, rules))
 
     def _explain(self, text: bytes, first: int, options: Options) -> RawExplanation:
         """Where a text doesn't match as a whole, from an offset on."""

@@ -251,7 +251,9 @@ class GrammarHandle:
     def _name(self, rule: int) -> str:
         return copied(lambda out, length: LIBRARY.peg_rule_name(byref(self.raw), rule, out, length)).decode("ascii")
 
-    def parse(self, text: bytes, first: int, options: Options) -> Tuple[int, Optional[RawAnswer]]:
+    def parse(
+        self, text: bytes, first: int, options: Options, with_nodes: bool
+    ) -> Tuple[int, Optional[RawAnswer]]:
         """Parses a text from an offset. Returns the status, and the answer if there is one."""
         self.owner.release()
         found = Handle()
@@ -259,7 +261,7 @@ class GrammarHandle:
             status = LIBRARY.peg_parse(
                 byref(self.raw), address(text, first), len(text) - first, *options.words(), byref(found)
             )
-            return status, raw_answer(found) if status in (OK, FAILED) else None
+            return status, raw_answer(found, with_nodes) if status in (OK, FAILED) else None
         finally:
             LIBRARY.peg_match_free(byref(found))
 
@@ -330,13 +332,14 @@ class RawAnswer(NamedTuple):
     nodes: memoryview
 
 
-def raw_answer(found: Handle) -> RawAnswer:
-    """Copies what a match handle holds."""
+def raw_answer(found: Handle, with_nodes: bool) -> RawAnswer:
+    """Copies what a match handle holds, with the nodes or without."""
     summary = PegSummary()
     LIBRARY.peg_match_summary(byref(found), byref(summary))
-    nodes = (PegNode * summary.nodes)()
-    if summary.nodes:
-        LIBRARY.peg_match_nodes(byref(found), 0, nodes, summary.nodes)
+    count = summary.nodes if with_nodes else 0
+    nodes = (PegNode * count)()
+    if count:
+        LIBRARY.peg_match_nodes(byref(found), 0, nodes, count)
     spans = (PegSpan * summary.expected)()
     if summary.expected:
         LIBRARY.peg_match_expected(byref(found), 0, spans, summary.expected)

@@ -1,4 +1,4 @@
-"""Nodes, rows and the lines of pegtool, against values worked out by hand."""
+"""Nodes, rows, records and the lines of pegtool, against values worked out by hand."""
 
 import struct
 import unittest
@@ -108,6 +108,36 @@ class RowsOfAMatch(unittest.TestCase):
         nodes = numpy.frombuffer(rows.buffer, Rows.FORMAT)
         self.assertEqual(nodes["level"].tolist(), [1, 2, 3, 2, 3, 3])
         self.assertEqual(int(nodes["size"].sum()), 6 + 2 + 1 + 3 + 1 + 1)
+
+
+class Records(unittest.TestCase):
+    LOG = "Log <- Line*\nLine <- Path ' ' Status? '\\n'\nPath <- '/' Word*\nWord <- [a-z]+ '/'?\nStatus <- [0-9]{3}\n"
+
+    def test_records_have_the_texts_of_the_first_nodes(self):
+        match = Grammar(self.LOG).parse("/a/b 200\n/ \n/c 404\n")
+        self.assertEqual(list(match.records("Line", "Path", "Status")), [("/a/b", "200"), ("/", None), ("/c", "404")])
+        self.assertEqual(list(match.records("Line", "Status", "Word")), [("200", "a/"), (None, None), ("404", "c")])
+        self.assertEqual(list(match.records("Path", "Status")), [(None,)] * 3)
+        self.assertRaises(TypeError, match.records, "Line")
+
+    def test_records_are_of_the_type_that_was_given(self):
+        match = Grammar(self.LOG).parse(b"/a 200\n")
+        self.assertEqual(list(match.records("Line", "Path")), [(b"/a",)])
+        match = Grammar("S <- P*\nP <- K V\nK <- '\xfc'\nV <- [a-z]\n").parse("\xfca\xfcb")
+        self.assertEqual(list(match.records("P", "K", "V")), [("\xfc", "a"), ("\xfc", "b")])
+
+    def test_nested_nodes_have_records_of_their_own(self):
+        match = Grammar("L <- '(' W? L* ')'\nW <- [a-z]+\n").parse("(a(b)((c)))")
+        self.assertEqual(list(match.records("L", "W")), [("a",), ("b",), ("c",), ("c",)])
+        # A node isn't below itself.
+        match = Grammar("L <- '(' L* ')'\n").parse("(()())")
+        self.assertEqual(list(match.records("L", "L")), [("()",), (None,), (None,)])
+
+    def test_the_rules_of_records_are_known(self):
+        match = Grammar(self.LOG).parse("")
+        self.assertEqual(list(match.records("Line", "Path")), [])
+        self.assertRaises(NoSuchRuleError, match.records, "Lien", "Path")
+        self.assertRaises(NoSuchRuleError, match.records, "Line", "Paht")
 
 
 class Lines(unittest.TestCase):

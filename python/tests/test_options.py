@@ -1,10 +1,100 @@
-"""Options of parses: a position to begin at, and a name."""
+"""Options of parses: shown and hidden rules, no tree, and a position to begin at."""
 
+import pathlib
+import tempfile
 import unittest
 
-from pegtool import Grammar, Match, ParseError, Text
+from pegtool import Failure, Grammar, Match, NoSuchRuleError, ParseError, Text
 
+# The grammar and the text are those of docs/USAGE.md, section "Shown and hidden rules".
+LETTERS = "S <- A B\nA <- 'a' C\nC <- 'c'\nB <- 'b' D D\nD <- 'd'\n"
+TEXT = "acbdd"
 LINE = "Line <- Word ' ' Word? '\\n'\nWord <- [a-z\\xC3\\xBC]+\n"
+
+
+def rows(match):
+    """The rows of a match as tuples."""
+    return [tuple(row) for row in match.rows]
+
+
+def sizes(match):
+    """The sizes of the nodes."""
+    return [node.size for node in match.root.walk()]
+
+
+class Selection(unittest.TestCase):
+    def test_the_children_of_a_hidden_node_take_its_place(self):
+        match = Grammar(LETTERS).parse(TEXT, hide=["A", "B"])
+        self.assertEqual(rows(match), [(1, "S", 0, 5), (2, "C", 1, 2), (2, "D", 3, 4), (2, "D", 4, 5)])
+        self.assertEqual(sizes(match), [4, 1, 1, 1])
+        self.assertEqual([child.rule for child in match.root], ["C", "D", "D"])
+        self.assertEqual([child.parent for child in match.root], [match.root] * 3)
+
+    def test_the_root_and_shown_nodes_are_shown(self):
+        match = Grammar(LETTERS).parse(TEXT, show=["C"])
+        self.assertEqual(rows(match), [(1, "S", 0, 5), (2, "C", 1, 2)])
+        match = Grammar(LETTERS).parse(TEXT, show=("B", "D"))
+        self.assertEqual(rows(match), [(1, "S", 0, 5), (2, "B", 2, 5), (3, "D", 3, 4), (3, "D", 4, 5)])
+        self.assertEqual(sizes(match), [4, 3, 1, 1])
+        self.assertEqual(rows(Grammar(LETTERS).parse(TEXT, show=[])), [(1, "S", 0, 5)])
+
+    def test_the_lines_are_those_of_pegtool(self):
+        # The lines are in docs/USAGE.md.
+        grammar = Grammar(LETTERS)
+        self.assertEqual(
+            grammar.parse(TEXT, hide=["A", "B"]).to_json(rows=True),
+            '{"consumed":5,"expected":[],"far":0,"result":"matched",'
+            '"rows":[[1,"S",0,5],[2,"C",1,2],[2,"D",3,4],[2,"D",4,5]]}',
+        )
+        self.assertEqual(
+            grammar.parse(TEXT, show=["C"]).to_json(),
+            '{"consumed":5,"expected":[],"far":0,"result":"matched","tree":{"children":[{"children":[],"end":2,'
+            '"rule":"C","start":1}],"end":5,"rule":"S","start":0}}',
+        )
+
+    def test_the_root_is_shown_though_its_rule_is_hidden(self):
+        match = Grammar("S <- 'a' S / T\nT <- 'b'\n").parse("aab", hide=["S"])
+        self.assertEqual(rows(match), [(1, "S", 0, 3), (2, "T", 2, 3)])
+
+    def test_deep_trees_are_selected(self):
+        match = Grammar("S <- A / 'b'\nA <- 'a' S\n").parse("a" * 20_000 + "b", hide=["S"])
+        self.assertEqual((len(match.rows), match.rows[-1]), (20_001, (20_001, "A", 19_999, 20_001)))
+        self.assertEqual([match.root.size, match.root[0].size], [20_001, 20_000])
+
+    def test_a_grammar_may_have_hidden_rules(self):
+        grammar = Grammar(LETTERS, hide=["A", "C", "D"])
+        self.assertEqual(rows(grammar.parse(TEXT)), [(1, "S", 0, 5), (2, "B", 2, 5)])
+        self.assertEqual(rows(grammar.match(TEXT + "x")), [(1, "S", 0, 5), (2, "B", 2, 5)])
+        with tempfile.TemporaryDirectory() as folder:
+            path = pathlib.Path(folder, "letters.peg")
+            path.write_text(LETTERS, encoding="ascii")
+            self.assertEqual(Grammar.from_file(path, hide=["A", "C", "D"]).hide, grammar.hide)
+        # What a parse says goes before.
+        self.assertEqual(len(grammar.parse(TEXT, hide=[]).rows), 6)
+        self.assertEqual(rows(grammar.parse(TEXT, show=["C"])), [(1, "S", 0, 5), (2, "C", 1, 2)])
+
+    def test_names_are_names_of_rules(self):
+        grammar = Grammar(LETTERS)
+        for options in ({"show": ["T"]}, {"hide": ["A", "T"]}, {"hide": ["T"], "tree": False}):
+            with self.assertRaises(NoSuchRuleError) as caught:
+                grammar.match(TEXT, **options)
+            self.assertEqual(str(caught.exception), "no rule has the name T")
+        self.assertRaises(NoSuchRuleError, Grammar, LETTERS, hide=["T"])
+        self.assertRaises(ValueError, grammar.match, TEXT, show=["A"], hide=["B"])
+        self.assertRaises(TypeError, grammar.match, TEXT, hide="A")
+
+    def test_a_failure_has_no_nodes_to_select(self):
+        self.assertIsInstance(Grammar(LETTERS).match("x", hide=["A"]), Failure)
+
+
+class NoTree(unittest.TestCase):
+    def test_a_parse_may_make_no_tree(self):
+        match = Grammar(LETTERS).parse(TEXT, tree=False)
+        self.assertEqual((match.consumed, match.text, match.is_whole, len(match.rows)), (5, TEXT, True, 0))
+        self.assertEqual(match.to_json(), '{"consumed":5,"expected":[],"far":0,"result":"matched"}')
+        self.assertRaises(ValueError, lambda: match.root)
+        self.assertRaises(ValueError, match.records, "A", "C")
+        self.assertRaises(ParseError, Grammar(LETTERS).parse, "a", tree=False)
 
 
 class Positions(unittest.TestCase):
@@ -13,7 +103,7 @@ class Positions(unittest.TestCase):
             match = Grammar(LINE).match(text, pos=4)
             self.assertEqual((match.start, match.end, match.consumed, match.is_whole), (4, 7, 3, True))
             self.assertEqual([(node.start, node.end, node.line, node.column) for node in match.root], [(4, 5, 2, 1)])
-            self.assertEqual(match.rows, [(1, "Line", 4, 7), (2, "Word", 4, 5)])
+            self.assertEqual(rows(match), [(1, "Line", 4, 7), (2, "Word", 4, 5)])
             self.assertEqual(match.far, 6)
 
     def test_records_are_parsed_one_after_the_other(self):
@@ -60,6 +150,10 @@ class Positions(unittest.TestCase):
             self.assertRaises(ValueError, grammar.match, "aa", pos=position)
             self.assertRaises(ValueError, grammar.match, b"aa", pos=position)
         self.assertRaises(TypeError, grammar.match, "aa", pos="1")
+
+    def test_shown_nodes_have_their_positions(self):
+        match = Grammar(LETTERS).match("xx" + TEXT, pos=2, show=["D"])
+        self.assertEqual(rows(match), [(1, "S", 2, 7), (2, "D", 5, 6), (2, "D", 6, 7)])
 
     def test_a_text_of_bytes_is_not_copied(self):
         data = b"a b\nc \n"
