@@ -42,7 +42,8 @@ class Grammar:
     `hide` has names of rules whose nodes are left out of trees, if a parse doesn't say otherwise. Raises `GrammarError`
     if the file is refused, and `NoSuchRuleError` if no rule has a name of `hide`.
 
-    A grammar may be used by several threads at once: each of them has its own copy of the compiled grammar.
+    A grammar may be used by several threads at once: each of them has its own copy of the compiled grammar. A grammar
+    can be pickled: it is sent as its source, and compiled again. It never changes, so a copy is the grammar itself.
     """
 
     def __init__(self, source: Union[str, Buffer], *, name: str = "<grammar>", hide: Iterable[str] = ()) -> None:
@@ -253,8 +254,22 @@ class Grammar:
             self._handles.handle = handle
         return handle
 
+    def __reduce__(self) -> Tuple[Any, ...]:
+        return grammar_of, (self._text.given, self.name, self.hide)
+
+    def __copy__(self) -> Grammar:
+        return self
+
+    def __deepcopy__(self, memo: Any) -> Grammar:
+        return self
+
     def __repr__(self) -> str:
         return f"<Grammar {self.name}, {len(self.rules)} rules>"
+
+
+def grammar_of(source: Union[str, bytes], name: str, hide: FrozenSet[str]) -> Grammar:
+    """A grammar that was pickled."""
+    return Grammar(source, name=name, hide=hide)
 
 
 def options_of(start: Optional[str], memo: int, steps: Optional[int]) -> Options:

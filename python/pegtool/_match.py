@@ -18,6 +18,8 @@ from typing import (
     Optional,
     Sequence,
     Tuple,
+    Type,
+    TypeVar,
     Union,
     overload,
 )
@@ -29,6 +31,8 @@ from ._text import AnyText, Text
 
 if TYPE_CHECKING:
     from ._grammar import Grammar
+
+OneAnswer = TypeVar("OneAnswer", bound="_Answer[Any]")
 
 # The type of `Node.bytes`, whose own name hides the type in the class.
 Bytes = bytes
@@ -130,6 +134,8 @@ class Node(Generic[AnyText]):
 
     `start`, `end` and `column` count characters if the text was given as `str`, and bytes otherwise. `byte_start` and
     `byte_end` count bytes. Of a match of `str`, `text[node.start:node.end]` is `node.text`.
+
+    A node that is pickled takes its match along. Nodes that are pickled together have one match.
     """
 
     __slots__ = ("_match", "_number")
@@ -282,6 +288,15 @@ class Node(Generic[AnyText]):
     def __hash__(self) -> int:
         return hash((id(self._match), self._number))
 
+    def __reduce__(self) -> Tuple[Any, ...]:
+        return Node, (self._match, self._number)
+
+    def __copy__(self) -> Node[AnyText]:
+        return self
+
+    def __deepcopy__(self, memo: Any) -> Node[AnyText]:
+        return self
+
     def __repr__(self) -> str:
         return f"<{self.rule} {self.start}..{self.end}>"
 
@@ -317,7 +332,11 @@ class Node(Generic[AnyText]):
 
 
 class _Answer(Generic[AnyText]):
-    """What matches and failures have in common."""
+    """What matches and failures have in common.
+
+    An answer can be pickled: it is sent with its grammar, its text and its nodes. It never changes, so a copy is the
+    answer itself.
+    """
 
     def __init__(self, grammar: Grammar, request: Request, raw: RawAnswer) -> None:
         self.grammar = grammar
@@ -402,6 +421,27 @@ class _Answer(Generic[AnyText]):
 
     def _spans_json(self) -> str:
         return ",".join(f"[{start},{end}]" for start, end in self.expected_spans)
+
+    def __reduce__(self) -> Tuple[Any, ...]:
+        summary, nodes = self._raw[:4], bytes(self._raw.nodes)
+        return answer_of, (type(self), self.grammar, self._request, summary, nodes)
+
+    def __copy__(self: OneAnswer) -> OneAnswer:
+        return self
+
+    def __deepcopy__(self: OneAnswer, memo: Any) -> OneAnswer:
+        return self
+
+
+def answer_of(
+    kind: Type[OneAnswer],
+    grammar: Grammar,
+    request: Request,
+    summary: Tuple[int, int, int, List[Tuple[int, int]]],
+    nodes: bytes,
+) -> OneAnswer:
+    """An answer that was pickled, with its packed nodes as bytes."""
+    return kind(grammar, request, RawAnswer(*summary, memoryview(nodes).cast("I")))
 
 
 class Failure(_Answer[AnyText]):

@@ -119,6 +119,15 @@ class Text(Generic[AnyText]):
             self._counts = array.array("I", itertools.accumulate(counts, initial=0))
         return self._counts
 
+    def __reduce__(self) -> Tuple[Any, ...]:
+        return Text, (self.given,)
+
+    def __copy__(self) -> Text[AnyText]:
+        return self
+
+    def __deepcopy__(self, memo: Any) -> Text[AnyText]:
+        return self
+
     def __repr__(self) -> str:
         return f"<Text of {len(self.data)} bytes>"
 
