@@ -25,13 +25,14 @@ from ._errors import (
     StepLimitError,
     TextError,
     TextTooLongError,
+    VisitError,
 )
 from ._grammar import DEFAULT_MEMO, Grammar
 from ._library import version
 from ._match import Failure, Match, Node, Row, Rows
 from ._text import Text
 from ._version import __version__
-from ._visitor import Visitor
+from ._visitor import Transformer, Visitor
 
 __all__ = [
     "DEFAULT_MEMO",
@@ -50,6 +51,8 @@ __all__ = [
     "Text",
     "TextError",
     "TextTooLongError",
+    "Transformer",
+    "VisitError",
     "Visitor",
     "__version__",
     "version",

@@ -62,7 +62,7 @@ class GrammarError(PegError):
 
 
 class TextError(PegError):
-    """An error at a position of a text: the base of `ParseError` and `NodeError`.
+    """An error at a position of a text: the base of `ParseError`, `NodeError` and `VisitError`.
 
     `message` says what is wrong. `position` is where, from 0; `line` and `column` are the same, both from 1. Position
     and column count characters if the text was given as `str`, and bytes otherwise; `byte_position` counts bytes.
@@ -113,6 +113,10 @@ class NodeError(TextError):
     def __init__(self, message: str, text: Text[Any], byte_position: int, name: str, rule: str) -> None:
         super().__init__(message, text, byte_position, name)
         self.rule = rule
+
+
+class VisitError(NodeError):
+    """A method of a visitor raised an exception, which is the cause of this error. The position is that of the node."""
 
 
 class NoSuchRuleError(PegError, ValueError):

@@ -6,7 +6,7 @@ import json
 import operator
 import os
 import threading
-from typing import Any, FrozenSet, Iterable, Optional, Tuple, Union, overload
+from typing import Any, Dict, FrozenSet, Iterable, Optional, Tuple, Union, overload
 
 from ._errors import GrammarError, NoSuchRuleError, StepLimitError, TextTooLongError
 from ._library import (
@@ -53,7 +53,8 @@ class Grammar:
         # How messages call the grammar file.
         self.name = name
         self._handles = threading.local()
-        self._leaves: Optional[FrozenSet[str]] = None
+        # For sets of hidden rules that were asked for, the rules whose nodes never have children.
+        self._leaves: Dict[FrozenSet[str], FrozenSet[str]] = {}
         # The names of the rules, in order.
         self.rules: Tuple[str, ...] = self._handle().rules()
         # The rules whose nodes are left out of trees, if a parse doesn't say otherwise.
@@ -206,14 +207,16 @@ class Grammar:
             return Failure(self, request, raw)
         return Match(self, request, selected(raw, self._numbers(hidden)))
 
-    def is_leaf(self, rule: str) -> bool:
-        """Whether nodes of a rule never have children: the rule calls no other outside predicates. The first use takes
-        time linear in the grammar file."""
-        if self._leaves is None:
+    def is_leaf(self, rule: str, hidden: Iterable[str] = ()) -> bool:
+        """Whether nodes of a rule never have children: the rule calls no other outside predicates, or only hidden rules
+        that never have children that aren't hidden. The first use with some hidden rules takes time linear in the
+        grammar file."""
+        key = frozenset(hidden)
+        if key not in self._leaves:
             from ._notation import leaves  # which is read by a grammar itself
 
-            self._leaves = leaves(self)
-        return rule in self._leaves
+            self._leaves[key] = leaves(self, key)
+        return rule in self._leaves[key]
 
     def _hidden(self, show: Optional[Iterable[str]], hide: Optional[Iterable[str]]) -> FrozenSet[str]:
         """The names of the rules whose nodes are left out."""

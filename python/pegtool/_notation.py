@@ -131,18 +131,30 @@ class _Reader(Visitor):
         return None
 
 
-def has_call(expression: Expression) -> bool:
-    """Whether an expression calls a rule outside predicates."""
+def called(expression: Expression) -> FrozenSet[str]:
+    """The rules that an expression calls outside predicates."""
     if isinstance(expression, Name):
-        return True
+        return frozenset([expression.rule])
     if isinstance(expression, (Sequence, Choice)):
-        return any(map(has_call, expression.items))
-    return isinstance(expression, Repeat) and has_call(expression.part)
+        return frozenset(rule for item in expression.items for rule in called(item))
+    return called(expression.part) if isinstance(expression, Repeat) else frozenset()
 
 
-def leaves(grammar: Grammar) -> FrozenSet[str]:
-    """The rules of a grammar that call no rule outside predicates."""
-    return frozenset(rule for rule, body in expressions(grammar).items() if not has_call(body))
+def leaves(grammar: Grammar, hidden: FrozenSet[str]) -> FrozenSet[str]:
+    """The rules of a grammar whose nodes never have children, if the nodes of hidden rules are left out."""
+    calls = {rule: called(body) for rule, body in expressions(grammar).items()}
+    return frozenset(rule for rule in calls if reached(calls, rule, hidden) <= hidden)
+
+
+def reached(calls: Dict[str, FrozenSet[str]], rule: str, hidden: FrozenSet[str]) -> FrozenSet[str]:
+    """The rules that a rule calls, and those that hidden ones of these call, and so on."""
+    found = set(calls[rule])
+    waiting = list(found & hidden)
+    while waiting:
+        further = calls[waiting.pop()] - found
+        found |= further
+        waiting.extend(further & hidden)
+    return frozenset(found)
 
 
 def expressions(grammar: Grammar) -> Dict[str, Expression]:

@@ -21,6 +21,7 @@ from pegtool import (
     PegError,
     StepLimitError,
     TextError,
+    VisitError,
 )
 
 CHAIN = "S <- 'a' S / 'b'\n"
@@ -142,7 +143,7 @@ class Nodes(unittest.TestCase):
 
     def test_errors_of_texts_have_a_base(self):
         self.assertIsInstance(self.error("a=1\n"), TextError)
-        for kind in (ParseError, NodeError):
+        for kind in (ParseError, NodeError, VisitError):
             self.assertTrue(issubclass(kind, TextError) and issubclass(kind, PegError))
         self.assertFalse(issubclass(GrammarError, TextError))
 

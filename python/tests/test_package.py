@@ -44,7 +44,7 @@ class Annotations(unittest.TestCase):
     def test_annotations_can_be_read(self):
         kinds = (pegtool.Grammar, pegtool.Match, pegtool.Failure, pegtool.Node, pegtool.Text, pegtool.Rows)
         read = 0
-        for kind in (*kinds, pegtool.Visitor):
+        for kind in (*kinds, pegtool.Visitor, pegtool.Transformer):
             for name, member in inspect.getmembers(kind):
                 function = member.fget if isinstance(member, property) else member
                 if inspect.isroutine(function) and not name.startswith("_"):
