@@ -180,31 +180,36 @@ class Reader:
         self.take("<-")
         return name, self.expression()
 
+    def expr_since(self, first: int, kind: str, parts: list[Expr]) -> Expr:
+        """An expression of the tokens since one of them, parentheses included. Without any it is empty, at the end of
+        the token before."""
+        end = self.tokens[self.at - 1].end
+        return Expr(kind, self.tokens[first].start if first < self.at else end, end, parts)
+
     def expression(self) -> Expr:
         """Expression <- Sequence (SLASH Sequence)*"""
+        first = self.at
         parts = [self.sequence()]
         while self.next().kind == "/":
             self.at += 1
             parts.append(self.sequence())
-        return parts[0] if len(parts) == 1 else Expr("choice", parts[0].start, parts[-1].end, parts)
+        return parts[0] if len(parts) == 1 else self.expr_since(first, "choice", parts)
 
     def sequence(self) -> Expr:
         """Sequence <- Prefix*"""
+        first = self.at
         parts = []
         while self.next().kind in ("&", "!", "name", "(", "literal", "class", ".") and not self.is_definition():
             parts.append(self.prefix())
-        if len(parts) == 1:
-            return parts[0]
-        before = self.tokens[self.at - 1].end
-        return Expr("sequence", parts[0].start if parts else before, parts[-1].end if parts else before, parts)
+        return parts[0] if len(parts) == 1 else self.expr_since(first, "sequence", parts)
 
     def prefix(self) -> Expr:
         """Prefix <- (AND / NOT)? Suffix"""
+        first = self.at
         if self.next().kind not in ("&", "!"):
             return self.suffix()
         sign = self.take(self.next().kind)
-        part = self.suffix()
-        return Expr("and" if sign.kind == "&" else "not", sign.start, part.end, [part])
+        return self.expr_since(first, "and" if sign.kind == "&" else "not", [self.suffix()])
 
     def suffix(self) -> Expr:
         """Suffix <- Primary (QUESTION / STAR / PLUS / COUNT)?"""
