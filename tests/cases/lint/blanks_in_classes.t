@@ -18,7 +18,7 @@ Both blanks belong to the class, so it matches a blank, which is rarely meant.
   {"warnings":[{"column":6,"end":11,"kind":"BlanksInClass","line":1,"proved":false,"rule":"S","start":5}]}
   [1]
 
-A blank on one side only, or nothing but blanks, has no warning.
+A blank on one side only has no warning, nor have one or two blanks with nothing between them.
 
   $ printf 'S <- [ T]' | pegtool lint /dev/stdin
   {"warnings":[]}
