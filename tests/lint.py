@@ -54,7 +54,7 @@ def differences(wanted, printed):
     yield from (f"extra: {line}" for line in found_lines.keys() - wanted_lines.keys())
     yield from (f"twice: {line}" for line, count in collections.Counter(map(line_of, printed)).items() if count > 1)
     if printed != sorted(printed, key=written_order):
-        yield "not in the order of the starts and the kinds\n"
+        yield "not in the order of the starts, the kinds and the ends\n"
 
 
 class Lists:

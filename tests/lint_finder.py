@@ -48,7 +48,7 @@ class Finder:
         self.reached = self.reached_from(start or self.definitions[0][0].value)
 
     def warnings(self) -> list[dict[str, object]]:
-        """The warnings with the members that `pegtool lint` prints, by their starts and then by their kinds."""
+        """The warnings with the members that `pegtool lint` prints, in its order."""
         found = [self.members(name.value, part)
                  for number, (name, _) in enumerate(self.definitions) for part in self.parts(number)]
         return sorted(found, key=written_order)
@@ -177,6 +177,6 @@ def empty_alternatives(choice: Expr):
             yield part_of("EmptyAlternative", part)
 
 
-def written_order(warning: dict[str, object]) -> tuple[object, int]:
+def written_order(warning: dict[str, object]) -> tuple[object, int, object]:
     """What the order of warnings goes by."""
-    return warning["start"], KINDS.index(warning["kind"])
+    return warning["start"], KINDS.index(warning["kind"]), warning["end"]
