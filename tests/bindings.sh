@@ -1,8 +1,9 @@
 #!/usr/bin/env bash
 # Tests the C library: builds it, compiles the C programs against its archive and its shared object, and runs them.
-# Compares rows.c, and rows.rs where there is rustc, with `pegtool parse --rows` for each text of examples/. Runs the
-# programs under valgrind where there is one. Takes the path of pegtool, by default the one that `make run` builds, and
-# the words for tools/c_library.sh. The last line counts the faults.
+# Compares the symbols that it shows and takes with lists, and looks for data that can be written. Compares rows.c, and
+# rows.rs where there is rustc, with `pegtool parse --rows` for each text of examples/. Runs the programs under valgrind
+# where there is one. Takes the path of pegtool, by default the one that `make run` builds, and the words for
+# tools/c_library.sh. The last line counts the faults.
 set -u
 cd "$(dirname "$0")/.." || exit 1
 program=$(realpath -- "${1:-crates/pegtool/out/pegtool}")
@@ -25,6 +26,17 @@ cmp "$work/declared" "$work/shared" || fault "libpeg.so doesn't show the functio
 cmp "$work/declared" "$work/static" || fault "libpeg.a doesn't show the functions of the header"
 readelf -d out/lib/libpeg.so | grep -q 'SONAME.*libpeg.so.1' || fault "libpeg.so has another soname"
 
+# The library takes the listed symbols from others, and makes no system calls itself. It has no data that can be written
+# but the byte `nothing` of the kit's heap. Only its address is used, as the result of a request that failed.
+sed '/^#/d; /^$/d' tests/c/imports.txt | sort > "$work/listed"
+nm -D --undefined-only out/lib/libpeg.so | awk '{ print $NF }' | sed 's/@.*//' | sort > "$work/imported"
+diff "$work/listed" "$work/imported" >&2 || fault "libpeg.so doesn't take the symbols of tests/c/imports.txt"
+objdump -d --no-show-raw-insn out/lib/libpeg.a |
+  awk '$2 ~ /^(syscall|sysenter|int)$/ { found = 1 } END { exit found }' || fault "libpeg.a makes system calls"
+size -A out/lib/libpeg.a | awk '$1 ~ /^\.t?(data|bss)/ && $2 { print $1, $2 }' > "$work/writable"
+nm out/lib/libpeg.a | awk '$2 ~ /^[bBcCdDgGsS]$/ { print $3 }' >> "$work/writable"
+printf '.bss 1\nnothing\n' | diff - "$work/writable" >&2 || fault "libpeg.a has data that can be written"
+
 compile() { # the program's name, its file, and more words for gcc
   gcc -std=c11 -O1 -g -Wall -Wextra -Werror -Iinclude -o "$work/$1" "$2" "${@:3}" || fault "$2 doesn't compile"
 }
@@ -34,6 +46,7 @@ compile rows examples/c/rows.c $archive
 compile rows_shared examples/c/rows.c -Lout/lib -lpeg "-Wl,-rpath,$PWD/out/lib"
 compile lint examples/c/lint.c $archive
 compile misuse tests/c/misuse.c $archive
+compile freed tests/c/freed.c $archive
 compile memory tests/c/memory.c $archive $wrap
 compile threads tests/c/threads.c $archive -pthread
 compile stack tests/c/stack.c $archive -pthread
@@ -101,6 +114,8 @@ cmp "$work/want" "$work/got" || fault "lint: another message for JSON"
 cmp "$work/want" "$work/got" || fault "lint: another message for a refused file"
 
 "$work/misuse" || fault "misuse"
+printf '{"a": [1, "b"]}' > "$work/object"
+"$work/freed" examples/json.peg "$work/object" || fault "freed"
 json=$(find examples/json -type f | sort | head -n 1)
 "$work/memory" examples/json.peg "$json" || fault "memory"
 printf '[%s]' "$(seq -s, 4000)" > "$work/long"
@@ -123,10 +138,11 @@ if command -v valgrind > /dev/null; then
   under rows examples/json.peg "$json"
   under lint examples/json.peg "$work/text"
   under misuse
+  under freed examples/json.peg "$work/object"
   under memory examples/json.peg "$json"
   valgrind -q --tool=helgrind --error-exitcode=99 "$work/threads" examples/json.peg "$json" > "$work/out" 2>&1 ||
     { fault "helgrind reports an error"; cat "$work/out" >&2; }
-  echo "valgrind: 5 programs"
+  echo "valgrind: 6 programs"
 else
   echo "SKIPPED: the C programs under valgrind, there is none"
 fi
