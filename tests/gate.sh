@@ -31,7 +31,8 @@ growths=("tests/oom/each_growth.py $program" "tests/oom/each_test.py" "tests/fuz
 # The Python package and the comparison of warnings use the C library that the first of these builds, over what `rt ci`
 # has proved.
 bindings=("tests/bindings.sh $program --proved" "tests/python.sh $program" "tests/lint.py $program 2004 2000")
-cases=("tests/cases.py $program" "tests/examples.py $program" "tests/explain.py $program" "tests/deep.py $program")
+cases=("tests/cases.py $program" "tests/examples.py $program" "tests/explain.py $program" "tests/deep.py $program"
+  "tests/wanted.py $program")
 others=("tests/scripts.sh" "tools/moved_tests.py" "tools/crates.py --check" "tools/recipes.py" "tools/frames.py"
   "tools/contracts.py --check" "tools/definitions.py --check" "tools/documents.py" "tests/fuzz.py $program --examples")
 run_lane() { # the scripts, in order; a line PASSED or FAILED ends what each prints
