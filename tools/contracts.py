@@ -1,7 +1,7 @@
 #!/usr/bin/env python3
-"""Lists the public functions of the product crates with the names of their contracts' clauses, for docs/TRUST.md.
+"""Lists the public functions of the product crates with the names of their contracts' clauses, for docs/CONTRACTS.md.
 
-With --write the list replaces the part of docs/TRUST.md between its two markers; with --check the exit status is 1 if
+With --write the list replaces the part of docs/CONTRACTS.md between its two markers; with --check the exit status is 1 if
 that part differs from the sources. A clause without a name is counted as `ensures`. Functions of public traits are
 listed as well, and those of a trait's implementation that have clauses of their own. The product crates are those above
 the heading `tests` in crates.txt.
@@ -15,7 +15,7 @@ import sys
 
 from generated import TOP, product_crates, run
 
-TRUST = TOP / "docs" / "TRUST.md"
+DOCUMENT = TOP / "docs" / "CONTRACTS.md"
 
 FUNCTION = re.compile(r'^(\s*)(pub )?(?:const )?(?:extern "C" )?fn (\w+)')
 CLAUSE = re.compile(r"^\s*ensures(?: (\w+))?(?: \*)? ?(?:\{|$)")
@@ -102,4 +102,4 @@ def listing(_head):
 
 
 if __name__ == "__main__":
-    sys.exit(run(TRUST, "contracts", "contracts.py", listing))
+    sys.exit(run(DOCUMENT, "contracts", "contracts.py", listing))
