@@ -3,7 +3,7 @@
 import re
 import unicodedata
 
-# What is shown of a line begins so many bytes before the position, and has at most so many bytes.
+# The part of a line that is shown: how many bytes before the position it begins, and its greatest length in bytes.
 BYTES_BEFORE = 80
 SHOWN_BYTES = 120
 

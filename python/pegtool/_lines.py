@@ -5,7 +5,7 @@ from __future__ import annotations
 import array
 from typing import Tuple
 
-# The line ends before each block of so many bytes are counted once.
+# Line ends are counted once for each block of this many bytes.
 BLOCK = 1024
 
 

@@ -19,7 +19,7 @@ if TYPE_CHECKING:
 else:  # Arrays have a type parameter from Python 3.12 on.
     Buffer = Union[bytes, bytearray, memoryview, mmap.mmap, array.array]
 
-# The characters that begin before each block of so many bytes are counted once.
+# Characters are counted once for each block of this many bytes.
 BLOCK = 256
 
 # The bytes of UTF-8 that begin no character.
