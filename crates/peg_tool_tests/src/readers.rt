@@ -1,10 +1,11 @@
 //! Grammar files read twice: by the hand-written reader, and by the metagrammar. Both return the same definitions, or
-//! both reject the file. A law of `peg_parser` says so of every file.
+//! both reject the file.
 use peg_fixtures::grammars::{ARITHMETIC, CSV, INI, JSON, NOTATION, URI};
 use peg_fixtures::nest_rule;
 use peg_notation::{NotationFault, figure, figure_text, read};
 use peg_tool::{FigureFault, read_by_figure};
 use std::alloc::{AllocError, Global};
+use std::process::Abort;
 use std::test::Fail;
 
 // The results of the two readers; `None` if the file is rejected.
@@ -61,6 +62,26 @@ fn files_are_read_alike(rt: HostRuntime) -> Result<(), Fail> {
         assert!(rt; by_hand == by_figure, "{file:?}");
     }
     Ok(())
+}
+
+// Checks that both readers return the same definitions of each front of a file, or both reject it.
+fn assert_fronts(rt: &impl Abort, alloc: Global, file: &[u8]) -> Result<(), Fail> {
+    for length in 0..=file.len() {
+        let (by_hand, by_figure) = both(alloc, &file[..length])?;
+        assert!(rt; by_hand == by_figure, "of {length} bytes");
+    }
+    Ok(())
+}
+
+#[test]
+fn each_front_of_the_figure_is_read_alike(rt: HostRuntime) -> Result<(), Fail> {
+    assert_fronts(&rt, rt.alloc(), figure_text())
+}
+
+#[test]
+fn each_front_of_an_example_is_read_alike(rt: HostRuntime) -> Result<(), Fail> {
+    assert_fronts(&rt, rt.alloc(), ARITHMETIC)?;
+    assert_fronts(&rt, rt.alloc(), INI)
 }
 
 // The faults of both readers.
