@@ -3,6 +3,7 @@ mod AccountLemmas
 mod AmongLemmas
 mod CallRules
 mod CodeLemmas
+mod CutLemmas
 mod EntryLemmas
 mod Expectations
 mod FailureNotes

@@ -4,40 +4,19 @@ use Rattle.std.specs.FinMap as map
 use Rattle.std.specs.List.{AllPairs}
 use Rattle.peg_tree.specs.Rows.{rows_of}
 use Rattle.peg_semantics.specs.Record.{Recognition, Failed, Matched, Record, Test, RuleCall}
-use Rattle.peg_memo.specs.MemoMap.{MemoMap, IsPartOf}
+use Rattle.peg_memo.specs.MemoMap.{MemoMap}
 use Rattle.peg_memo.specs.StoredResult.{StoredResult, StoredFailure, StoredMatch}
+pub use Rattle.peg_memo.specs.StoreState.{MemoState, memo_state, IsTouched}
+use Rattle.peg_memo.specs.StoreState.{IsOfferedAt}
 use Rattle.peg_machine.specs.Packrat.{IsInMemo, AreInMemoOrActive}
 use Rattle.peg_machine.specs.Running.{RunContext}
 use Rattle.peg_machine.specs.PartialRuns.{ActiveCall, MayBeStored}
 
 -- ---- a memo at a moment
 
--- a memo: its entries, its capacity before it may evict one, and whether an allocation failed
-pub record MemoState : Type 0 where
-  pub entries : MemoMap
-  pub capacity : ℕ
-  pub allocation_failed : Bool
-
-abbrev pub memo_state : MemoMap → (capacity : ℕ) → (allocation_failed : Bool) → MemoState
-memo_state stored capacity allocation_failed = record { entries = stored; capacity = capacity; allocation_failed = allocation_failed }
-
--- a memo after an entry was marked as used
-pub record IsTouched (old new : MemoState) : Type 0 where
-  pub part : IsPartOf new.entries old.entries
-  pub same : 0 < old.capacity → new.entries ≡ old.entries
-  pub capacity : new.capacity ≡ old.capacity
-  pub allocation_failed : IsTrue old.allocation_failed → IsTrue new.allocation_failed
-
 -- a memo after the result of a call was offered to it, whether it stored the result or not
-pub record IsOffered (old : MemoState) (pair : RuleCall) (result : StoredResult) (kept : Bool)
-    (new : MemoState) : Type 0 where
-  pub part : IsPartOf new.entries
-      (if kept then map.insert old.entries (pair.rule, pair.position) result else old.entries)
-  pub all : 0 < old.capacity → new.allocation_failed ≡ false → (map.len old.entries < old.capacity)
-      ⊎ IsInMemo old.entries pair
-      → new.entries ≡ map.insert old.entries (pair.rule, pair.position) result
-  pub capacity : new.capacity ≡ old.capacity
-  pub allocation_failed : IsTrue old.allocation_failed → IsTrue new.allocation_failed
+abbrev pub IsOffered : (old : MemoState) → RuleCall → StoredResult → (kept : Bool) → (new : MemoState) → Type 0
+IsOffered old pair result kept new = IsOfferedAt old (pair.rule, pair.position) result kept new
 
 -- ---- the invariant
 

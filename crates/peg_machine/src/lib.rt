@@ -41,5 +41,5 @@ mod watch;
 pub use answer::Answer;
 pub use fault::RunFault;
 pub use packrat::run_packrat;
-pub use running::{run, run_among, run_selecting, run_with_shortcuts};
+pub use running::{run, run_among, run_in_store, run_selecting, run_with_shortcuts};
 pub use watch::{ListWatch, NoWatch, Watch};

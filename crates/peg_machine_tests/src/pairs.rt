@@ -82,8 +82,8 @@ fn run_without_memo(
     )
 }
 
-// Runs with a memo of this capacity, from a rule, with shortcuts for every instruction.
-fn run_with(
+/// Runs with a memo of this capacity, from a rule, with shortcuts for every instruction.
+pub(crate) fn run_with(
     alloc: Global,
     program: &Program,
     text: &[u8],

@@ -1,10 +1,18 @@
-//! The costs of rules and the entries of a selective memo, worked out by hand from the code.
-use crate::pairs::program_of;
-use peg_fixtures::node;
-use peg_memo::{Found, Keep};
-use peg_memo_policy::{RerunCosts, SelectiveMemo};
+//! The costs of rules and the entries of a selective store, worked out by hand from the code; and runs over one.
+ghost use Rattle.std.specs.Prelude.{◌<◌, length, IfOk, OnOk};
+ghost use Rattle.peg_memo_policy.specs.SelectiveStore.{state_by};
+ghost use Rattle.peg_nodes.specs.OpenNodes.{IsOpenAt};
+
+use crate::pairs::{assert_alike, program_of, run_with};
+use peg_bytes::Span;
+use peg_code::Program;
+use peg_fixtures::grammars::TWICE;
+use peg_fixtures::{nest, node};
+use peg_machine::{Answer, NoWatch, RunFault, run_in_store};
+use peg_memo::{NodeStore, Recalled};
+use peg_memo_policy::{RerunCosts, SelectiveStore};
 use peg_tree::TreeNode;
-use std::alloc::Global;
+use std::alloc::{AllocError, Global};
 use std::test::Fail;
 
 fn costs_of(alloc: Global, file: &[u8]) -> Result<RerunCosts, Fail> {
@@ -82,55 +90,107 @@ fn failures_are_soon_or_not(rt: HostRuntime) -> Result<(), Fail> {
 // Rules by number: 0 S, 1 N, 2 W, 3 D.
 const FILE: &[u8] = b"S <- N 'x' / N 'y' / D\nN <- [0-9]+ W\nW <- ' '*\nD <- [0-9]";
 
+// Looks up a rule at a position, as a call does.
+fn call(store: &mut SelectiveStore<'_>, rule: u32, position: u32) -> Result<Recalled, AllocError> {
+    store.touch(rule, position);
+    store.recall(rule, position)
+}
+
 // Looks up a rule at a position, as a call does. Returns whether there is no entry.
-fn begins<K: Keep>(memo: &mut K, rule: u32, position: u32) -> bool {
-    memo.touch(rule, position);
-    memo.find(rule, position).is_none()
+fn begins(store: &mut SelectiveStore<'_>, rule: u32, position: u32) -> Result<bool, AllocError> {
+    Ok(call(store, rule, position)? == Recalled::Nothing)
 }
 
 // Calls a rule that fails at a position. Returns whether its result is stored.
-fn fails<K: Keep>(memo: &mut K, rule: u32, position: u32) -> bool {
-    begins(memo, rule, position) && memo.keep(rule, position, Found::Failed)
+fn fails(store: &mut SelectiveStore<'_>, rule: u32, position: u32) -> Result<bool, AllocError> {
+    Ok(begins(store, rule, position)? && store.fail(rule, position))
 }
 
-// A match with its end and its nodes.
-fn done(end: u32, nodes: &[TreeNode]) -> Found<'_> {
-    Found::Done { end, nodes }
+// Appends a node without children to those of the newest call.
+fn push_leaf(store: &mut SelectiveStore<'_>, position: u32, at: usize) -> Result<(), AllocError>
+    requires { IsOpenAt (state_by store.old).nodes at }
+    ensures { OnOk result (IsOpenAt (state_by store.new).nodes at) }
+{
+    store.push(TreeNode {
+        rule: 2,
+        span: Span::new(position, position),
+        size: 1,
+    })
+}
+
+// Opens the node of a call. Returns its index.
+fn open(store: &mut SelectiveStore<'_>, rule: u32, position: u32) -> Result<usize, AllocError>
+    ensures { IfOk result (λ at. IsOpenAt (state_by store.new).nodes at) }
+{
+    let at = store.len();
+    store.push(TreeNode {
+        rule,
+        span: Span::new(position, position),
+        size: 0,
+    })?;
+    Ok(at)
+}
+
+// Calls rule 1, which matches from the start to an end and has three nodes below its own, or four. Returns whether its
+// result is stored.
+fn matches(store: &mut SelectiveStore<'_>, end: u32, has_four: bool) -> Result<bool, AllocError> {
+    let at = open(store, 1, 0)?;
+    push_leaf(store, 0, at)?;
+    push_leaf(store, 2, at)?;
+    push_leaf(store, 4, at)?;
+    if has_four {
+        push_leaf(store, 6, at)?;
+    }
+    Ok(store.finish(at, 1, 0, end))
 }
 
 // Calls a rule that fails at a number of positions. Returns how many of the results are stored.
-fn kept_failures<K: Keep>(memo: &mut K, rule: u32, places: u32) -> u32 {
+fn kept_failures(
+    store: &mut SelectiveStore<'_>,
+    rule: u32,
+    places: u32,
+) -> Result<u32, AllocError> {
     let mut kept: u32 = 0;
     for position in 0..places {
-        if fails(memo, rule, position) {
+        if fails(store, rule, position)? {
             kept = kept.saturating_add(1);
         }
     }
-    kept
+    Ok(kept)
 }
 
 // The result of the start, a trivial rule and an unknown rule are declined. Five nodes don't pay for the work of a number.
+// A hit appends the nodes that were stored, and a store of one entry has the last one.
 #[test]
 fn a_selective_memo_stores_what_pays(rt: HostRuntime) -> Result<(), Fail> {
     let costs = costs_of(rt.alloc(), FILE)?;
-    let mut memo = SelectiveMemo::new(rt.alloc(), 1, &costs, b"1 2 3 4 5 ")?;
-    assert!(rt; !fails(&mut memo, 3, 0) && !fails(&mut memo, 4, 0) && memo.is_empty());
-    assert!(rt; fails(&mut memo, 1, 1) && !memo.keep(0, 1, Found::Failed));
-    let nodes = [
-        node(1, 0, 2, 1),
-        node(1, 2, 4, 1),
-        node(1, 4, 6, 1),
-        node(1, 6, 8, 1),
-        node(1, 8, 10, 1),
+    let mut store = SelectiveStore::new(rt.alloc(), 1, &costs, b"1 2 3 4 5 ")?;
+    assert!(rt; !fails(&mut store, 3, 0)? && !fails(&mut store, 4, 0)?);
+    assert!(rt; begins(&mut store, 3, 0)? && begins(&mut store, 4, 0)?);
+    assert!(rt; fails(&mut store, 1, 1)? && !store.fail(0, 1));
+    assert_eq!(rt; call(&mut store, 1, 1)?, Recalled::Failed);
+    assert!(rt; begins(&mut store, 1, 0)? && !matches(&mut store, 10, true)?);
+    assert!(rt; begins(&mut store, 1, 0)? && matches(&mut store, 8, false)?);
+    assert_eq!(rt; call(&mut store, 1, 0)?, Recalled::Matched { end: 8 });
+    assert!(rt; begins(&mut store, 1, 1)? && store.len() == 13);
+    let leaf = |position: u32| node(2, position, position, 1);
+    let nodes = store.take_nodes()?;
+    let wanted = [
+        node(1, 0, 10, 5),
+        leaf(0),
+        leaf(2),
+        leaf(4),
+        leaf(6),
+        node(1, 0, 8, 4),
+        leaf(0),
+        leaf(2),
+        leaf(4),
+        node(1, 0, 8, 4),
+        leaf(0),
+        leaf(2),
+        leaf(4),
     ];
-    assert!(rt; begins(&mut memo, 1, 0) && !memo.keep(1, 0, done(10, &nodes)));
-    assert!(rt; begins(&mut memo, 1, 0) && memo.keep(1, 0, done(8, &nodes[1..])));
-    memo.touch(1, 0);
-    match memo.find(1, 0) {
-        Some(Found::Done { nodes: found, .. }) => assert_eq!(rt; found, &nodes[1..]),
-        _ => return Err("no match".into()),
-    }
-    assert!(rt; begins(&mut memo, 1, 1));
+    assert_eq!(rt; nodes.as_slice(), wanted.as_slice());
     Ok(())
 }
 
@@ -147,8 +207,8 @@ fn a_rule_in_debt_stores_a_sample(rt: HostRuntime) -> Result<(), Fail> {
         (&digits, 1000, 1000),
     ];
     for (text, places, kept) in cases {
-        let mut memo = SelectiveMemo::new(rt.alloc(), 16, &costs, text)?;
-        assert_eq!(rt; kept_failures(&mut memo, 1, places), kept);
+        let mut store = SelectiveStore::new(rt.alloc(), 16, &costs, text)?;
+        assert_eq!(rt; kept_failures(&mut store, 1, places)?, kept);
     }
     Ok(())
 }
@@ -157,16 +217,63 @@ fn a_rule_in_debt_stores_a_sample(rt: HostRuntime) -> Result<(), Fail> {
 #[test]
 fn a_rule_whose_results_are_found_is_in_no_debt(rt: HostRuntime) -> Result<(), Fail> {
     let costs = costs_of(rt.alloc(), FILE)?;
-    let mut memo = SelectiveMemo::new(rt.alloc(), 16, &costs, b"")?;
+    let mut store = SelectiveStore::new(rt.alloc(), 16, &costs, b"")?;
     let mut found: u32 = 0;
     for position in 0..1000 {
-        if fails(&mut memo, 1, position)
-            && !begins(&mut memo, 1, position)
-            && !begins(&mut memo, 1, position)
+        if fails(&mut store, 1, position)?
+            && !begins(&mut store, 1, position)?
+            && !begins(&mut store, 1, position)?
         {
             found = found.saturating_add(1);
         }
     }
     assert_eq!(rt; found, 1000);
+    Ok(())
+}
+
+// Runs from the first rule over a selective store.
+fn run_selective(
+    alloc: Global,
+    program: &Program,
+    costs: &RerunCosts,
+    text: &[u8],
+    capacity: u32,
+) -> Result<Answer, RunFault>
+    requires { 0 < length program.now.core.bodies }
+{
+    let mut store = SelectiveStore::new(alloc, capacity.max(1), costs, text)?;
+    run_in_store(
+        alloc,
+        program,
+        text,
+        0,
+        None,
+        &mut store,
+        &mut NoWatch,
+        None,
+    )
+}
+
+// Without a memo each level doubles the steps. Linked results give the outcome of copied ones, also where entries are
+// evicted, and where the text doesn't match.
+#[test]
+fn linked_results_give_the_outcome_of_copied_ones(rt: HostRuntime) -> Result<(), Fail> {
+    let alloc = rt.alloc();
+    let program = program_of(alloc, TWICE)?;
+    let costs = RerunCosts::new(alloc, &program)?;
+    let cases: [(usize, &str, u32); 5] = [
+        (1, ")y", 4096),
+        (40, ")x", 4096),
+        (300, ")y", 4096),
+        (300, ")y", 64),
+        (300, ")z", 4096),
+    ];
+    for (levels, closing, capacity) in cases {
+        assert!(rt; program.rules() > 0);
+        let text = nest(alloc, levels, "(", b"a", closing)?;
+        let wanted = run_with(alloc, &program, &text, 0, 4096)?;
+        let answer = run_selective(alloc, &program, &costs, &text, capacity)?;
+        assert_alike(&rt, alloc, &answer.outcome, &wanted.outcome)?;
+    }
     Ok(())
 }

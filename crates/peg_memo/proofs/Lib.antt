@@ -1,5 +1,5 @@
 mod AfterKeep
 pub mod HeldLemmas
-mod HeldPairs
-mod Mapped
+pub mod HeldPairs
+pub mod Mapped
 pub mod KeyOrder

@@ -3,3 +3,4 @@ pub mod StoredResult
 pub mod Memo
 pub mod Stored
 pub mod MemoKey
+pub mod StoreState

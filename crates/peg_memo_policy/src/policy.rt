@@ -1,11 +1,12 @@
 //! The policy that decides which results are stored.
 //!
-//! **Work pays for copies.** To store a result is to copy its nodes. `credit` grows with each body that is run and with
-//! each node that a hit returns. It shrinks by the nodes that are stored. A result is stored only if the credit has
-//! grown by at least its number of nodes since its body began. So no more nodes are copied than work was done. A body
-//! that is declined for this reason has left nodes in the memo for at least half of its work, and a second run finds
-//! them. A rule in debt has a higher price: the credit must have grown by more than `WORK_PER_CALL` for each node. If each of
-//! these nodes was computed once and nothing else was, running the body again costs hardly more than a copy.
+//! **Work pays for moves.** To store a result is to move its items: its nodes, with one link in the place of each result
+//! that is part of it. `credit` grows with each body that is run and with each hit. It shrinks by the items that are
+//! stored. A result is stored only if the credit has grown by at least its number of items since its body began. So no
+//! more items are moved than work was done. A body that is declined for this reason has left results in the memo for at
+//! least half of its work, and a second run finds them. A rule in debt has a higher price: the credit must have grown by
+//! more than `WORK_PER_CALL` for each item. If each of these items was made once and nothing else was done, running the
+//! body again costs hardly more.
 //!
 //! **Tiny rules aren't looked up.** Their bodies cost less than a memo lookup.
 //!
@@ -24,7 +25,7 @@ use crate::size::Size;
 use crate::{RerunCost, RerunCosts};
 use std::alloc::{AllocError, Global};
 
-// The work that a body counts for, besides its nodes.
+// The work that a body counts for, besides its items.
 const WORK_PER_CALL: u64 = 4;
 
 // A rule with a smaller balance is in debt. A rule starts with the price of 512 stored failures more, so that on short
@@ -35,17 +36,17 @@ const INITIAL_BALANCE: u64 = 4352;
 
 const MAX_BALANCE: u64 = 65536;
 
-// What each stored result costs its rule besides its nodes, and what each hit adds besides what it saves.
+// What each stored result costs its rule besides its items, and what each hit adds besides what it saves.
 const STORE_COST: u64 = 8;
 
 const HIT_GAIN: u64 = 4;
 
-// The work of a small result is less than `SMALL_WORK`, plus `SMALL_WORK_PER_NODE` for each of its nodes.
+// The work of a small result is less than `SMALL_WORK`, plus `SMALL_WORK_PER_ITEM` for each of its items.
 const SMALL_WORK: u64 = 256;
 
-const SMALL_WORK_PER_NODE: u64 = 16;
+const SMALL_WORK_PER_ITEM: u64 = 16;
 
-// A rule in debt stores one in `SAMPLE_PERIOD` of its small results, and fewer of those with more nodes.
+// A rule in debt stores one in `SAMPLE_PERIOD` of its small results, and fewer of those with more items.
 const SAMPLE_PERIOD: u64 = 128;
 
 /// Whether the result of a call is stored.
@@ -161,9 +162,9 @@ impl<'a> Policy<'a> {
     /// Records a hit: the memo returned the result of a rule at a position.
     pub fn note_found(&mut self, rule: u32, position: u32, size: Size) {
         self.recent.note_found(rule, position);
-        self.credit = self.credit.saturating_add(size.rows.saturating_mul(2));
+        self.credit = self.credit.saturating_add(size.items.saturating_mul(2));
         if let Some(account) = self.accounts.get_mut(rule as usize) {
-            let saved = size.rows.saturating_mul(4).saturating_add(size.bytes);
+            let saved = size.nodes.saturating_mul(4).saturating_add(size.bytes);
             let balance = account
                 .balance
                 .saturating_add(saved)
@@ -187,7 +188,7 @@ impl<'a> Policy<'a> {
         let Some(account) = self.accounts.get(rule as usize) else {
             return Decision::Decline;
         };
-        if work < account.price_of(size.rows) {
+        if work < account.price_of(size.items) {
             return Decision::Decline;
         }
         if account.balance >= DEBT_THRESHOLD || !is_small(size, work) {
@@ -198,7 +199,7 @@ impl<'a> Policy<'a> {
         } else {
             account.linear_on_success
         };
-        match (is_cheap, account.is_next_sample(size.rows)) {
+        match (is_cheap, account.is_next_sample(size.items)) {
             (false, _) => Decision::Store,
             (true, true) => Decision::Sample,
             (true, false) => Decision::Skip,
@@ -222,27 +223,27 @@ impl<'a> Policy<'a> {
     /// Records that a result was stored.
     pub fn note_stored(&mut self, rule: u32, position: u32, size: Size) {
         self.recent.note_stored(rule, position);
-        self.credit = self.credit.saturating_sub(size.rows);
+        self.credit = self.credit.saturating_sub(size.items);
         if let Some(account) = self.accounts.get_mut(rule as usize) {
-            let price = size.rows.saturating_add(STORE_COST);
+            let price = size.items.saturating_add(STORE_COST);
             account.balance = account.balance.saturating_sub(price);
         }
     }
 }
 
 impl RuleAccount {
-    // The least work for which a result with this number of nodes is stored.
-    fn price_of(&self, rows: u64) -> u64 {
+    // The least work for which a result with this number of items is stored.
+    fn price_of(&self, items: u64) -> u64 {
         if self.balance < DEBT_THRESHOLD {
-            rows.saturating_mul(WORK_PER_CALL).saturating_add(1)
+            items.saturating_mul(WORK_PER_CALL).saturating_add(1)
         } else {
-            rows
+            items
         }
     }
 
     // Whether the next small result is part of the sample.
-    fn is_next_sample(&self, rows: u64) -> bool {
-        let period = SAMPLE_PERIOD.saturating_add(rows.saturating_mul(SAMPLE_PERIOD / 16));
+    fn is_next_sample(&self, items: u64) -> bool {
+        let period = SAMPLE_PERIOD.saturating_add(items.saturating_mul(SAMPLE_PERIOD / 16));
         u64::from(self.skipped).saturating_add(1) >= period
     }
 }
@@ -261,7 +262,7 @@ fn end_newest_call(open: &mut Vec<CallRun>) -> Option<u64> {
 
 // Whether a result is small: its work, and the bytes that were read for it, are cheap to repeat.
 fn is_small(size: Size, work: u64) -> bool {
-    let limit = SMALL_WORK.saturating_add(size.rows.saturating_mul(SMALL_WORK_PER_NODE));
+    let limit = SMALL_WORK.saturating_add(size.items.saturating_mul(SMALL_WORK_PER_ITEM));
     work.saturating_add(size.bytes) < limit
 }
 

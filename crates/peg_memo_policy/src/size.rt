@@ -1,28 +1,35 @@
 //! The size of a result.
-use peg_memo::Found;
 
 /// The size of a result.
 #[derive(Clone, Copy)]
 pub struct Size {
+    /// The number of items that are moved to store it, 0 for a failure.
+    pub items: u64,
     /// The number of nodes, 0 for a failure.
-    pub rows: u64,
+    pub nodes: u64,
     /// The number of bytes that the match consumes, 0 for a failure.
     pub bytes: u64,
     pub failed: bool,
 }
 
-/// Returns the size of a result of a call at a position. Takes constant time.
-pub fn size_of(found: Found<'_>, position: u32) -> Size {
-    match found {
-        Found::Failed => Size {
-            rows: 0,
+impl Size {
+    /// Returns the size of a failure.
+    pub fn of_failure() -> Size {
+        Size {
+            items: 0,
+            nodes: 0,
             bytes: 0,
             failed: true,
-        },
-        Found::Done { end, nodes } => Size {
-            rows: nodes.len() as u64,
-            bytes: u64::from(end.saturating_sub(position)),
+        }
+    }
+
+    /// Returns the size of a match between two byte offsets.
+    pub fn of_match(items: u64, nodes: u64, start: u32, end: u32) -> Size {
+        Size {
+            items,
+            nodes,
+            bytes: u64::from(end.saturating_sub(start)),
             failed: false,
-        },
+        }
     }
 }

@@ -1,5 +1,5 @@
 //! Parsers: accepted grammar files, and parsing texts by them.
-ghost use Rattle.std.specs.Prelude.{◌≡◌, ◌<◌, ◌≤◌, ◌↔◌, ℕ, List, None, Option};
+ghost use Rattle.std.specs.Prelude.{◌≡◌, ◌<◌, ◌≤◌, ◌↔◌, ⊤, [], ℕ, List, None, Option};
 ghost use Rattle.std.specs.Prelude.{length, slice_get, Some, IfOk, IfErr, IfSome, IsErrOf, OnOk};
 ghost use Rattle.std.specs.FinMap as map;
 ghost use Rattle.std.specs.List.Sorted.{IsStrictlyIncreasing};
@@ -26,9 +26,9 @@ use peg_check::check;
 use peg_code::{MAX_INSTRUCTIONS, Program, code_size, compile};
 use peg_core::desugar;
 use peg_grammar::{Grammar, MAX_TEXT_BYTES};
-use peg_machine::{Answer, NoWatch, RunFault, Watch, run_selecting};
-use peg_memo::{Keep, NoMemo};
-use peg_memo_policy::{RerunCosts, SelectiveMemo};
+use peg_machine::{Answer, NoWatch, RunFault, Watch, run_in_store};
+use peg_memo::{CopiedNodes, NoMemo, NodeStore};
+use peg_memo_policy::{RerunCosts, SelectiveStore};
 use peg_notation::read;
 use std::alloc::{AllocError, Global};
 use thiserror::Error;
@@ -254,26 +254,10 @@ impl Parser {
             return Err(ParseFault::NoSuchStart);
         };
         if options.memo == 0 || text.len() > MAX_TEXT_BYTES {
-            return self.answer(
-                alloc,
-                text,
-                start,
-                among,
-                &mut NoMemo,
-                &mut NoWatch,
-                options.steps,
-            );
+            return self.answer_plain(alloc, text, start, among, &mut NoWatch, options.steps);
         }
         let plain_steps = plain_steps(text.len(), options.steps);
-        match self.answer(
-            alloc,
-            text,
-            start,
-            among,
-            &mut NoMemo,
-            &mut NoWatch,
-            Some(plain_steps),
-        ) {
+        match self.answer_plain(alloc, text, start, among, &mut NoWatch, Some(plain_steps)) {
             Err(ParseFault::StepLimit) => {
                 self.answer_with_memo(
                     alloc,
@@ -333,7 +317,7 @@ impl Parser {
             None => Err(ParseFault::NoSuchStart),
             Some(_) if text.len() > MAX_TEXT_BYTES => Err(ParseFault::TextTooLong),
             Some(start) if memo == 0 => {
-                self.answer(alloc, text, start, None, &mut NoMemo, watch, max_steps)
+                self.answer_plain(alloc, text, start, None, watch, max_steps)
             }
             Some(start) => {
                 self.answer_with_memo(alloc, text, start, None, memo, watch, max_steps)
@@ -365,47 +349,79 @@ impl Parser {
             × GetsCalls W.records W.traced watch.old watch.new calls
             × AreCallsSoFar (parser_rules self.now) text.now (name_of (parser_rules self.now) start) max_steps calls }
     {
-        let mut memo = SelectiveMemo::new(alloc, capacity, &self.costs, text)?;
-        self.answer(alloc, text, start, among, &mut memo, watch, max_steps)
+        let mut store = SelectiveStore::new(alloc, capacity, &self.costs, text)?;
+        self.answer(alloc, text, start, among, &mut store, watch, max_steps)
     }
 
-    // Runs the machine on a text from a rule, with an empty memo and a tracer.
-    fn answer<K: Keep, W: Watch>(
+    // Runs the machine on a text from a rule, without a memo and with a tracer.
+    fn answer_plain<W: Watch>(
         &self,
         alloc: Global,
         text: &[u8],
         start: u32,
         among: Option<&[u32]>,
-        memo: &mut K,
         watch: &mut W,
         max_steps: Option<u64>,
     ) -> Result<Answer, ParseFault>
         requires start { start < length (parser_rules self.now) }
         requires ascending { ForSome among (λ terminals. IsStrictlyIncreasing terminals.now) }
-        requires empty { map.len (K.entries memo.old) ≡ 0 }
         ensures parse { (named : Option (List ℕ))
             → start_name (parser_rules self.now) named ≡ Some (name_of (parser_rules self.now) start)
-            → IsParse (listed among.entry) (parser_rules self.now) text.now named (NeverStores K.entries) max_steps result }
+            → IsParse (listed among.entry) (parser_rules self.now) text.now named ⊤ max_steps result }
+        ensures traced { OnOk result (TracesCallsOf (parser_rules self.now) text.now
+            (name_of (parser_rules self.now) start) (GetsCalls W.records W.traced watch.old watch.new)) }
+        ensures in_order { OnOk result (TracesCallsInOrder
+            (parser_rules self.now) text.now (name_of (parser_rules self.now) start)
+            (GetsCalls W.records W.traced watch.old watch.new)) }
+        ensures stopped { IsErrOf result ParseFault.StepLimit
+            → (calls : List RuleCall) × GetsCalls W.records W.traced watch.old watch.new calls
+            × AreCallsSoFar (parser_rules self.now) text.now (name_of (parser_rules self.now) start) max_steps calls
+            × AreFirstCalls (parser_rules self.now) text.now (name_of (parser_rules self.now) start) calls }
+    {
+        let mut memo = NoMemo;
+        let mut store = CopiedNodes::new(alloc, &mut memo);
+        self.answer(alloc, text, start, among, &mut store, watch, max_steps)
+    }
+
+    // Runs the machine on a text from a rule, with a store without nodes and entries, and a tracer.
+    fn answer<S: NodeStore, W: Watch>(
+        &self,
+        alloc: Global,
+        text: &[u8],
+        start: u32,
+        among: Option<&[u32]>,
+        store: &mut S,
+        watch: &mut W,
+        max_steps: Option<u64>,
+    ) -> Result<Answer, ParseFault>
+        requires start { start < length (parser_rules self.now) }
+        requires ascending { ForSome among (λ terminals. IsStrictlyIncreasing terminals.now) }
+        requires no_nodes { (S.state store.old).nodes ≡ [] }
+        requires empty { map.len (S.state store.old).memo.entries ≡ 0 }
+        ensures parse { (named : Option (List ℕ))
+            → start_name (parser_rules self.now) named ≡ Some (name_of (parser_rules self.now) start)
+            → IsParse (listed among.entry) (parser_rules self.now) text.now named
+            (NeverStores (λ (any : S). (S.state any).memo.entries)) max_steps result }
         ensures traced { OnOk result (TracesCallsOf (parser_rules self.now) text.now
             (name_of (parser_rules self.now) start) (GetsCalls W.records W.traced watch.old watch.new)) }
         ensures stopped { IsErrOf result ParseFault.StepLimit → (calls : List RuleCall)
             × GetsCalls W.records W.traced watch.old watch.new calls
             × AreCallsSoFar (parser_rules self.now) text.now (name_of (parser_rules self.now) start) max_steps calls }
-        ensures in_order { NeverStores K.entries → OnOk result (TracesCallsInOrder
+        ensures in_order { NeverStores (λ (any : S). (S.state any).memo.entries) → OnOk result (TracesCallsInOrder
             (parser_rules self.now) text.now (name_of (parser_rules self.now) start)
             (GetsCalls W.records W.traced watch.old watch.new)) }
-        ensures stopped_in_order { NeverStores K.entries → IsErrOf result ParseFault.StepLimit
+        ensures stopped_in_order { NeverStores (λ (any : S). (S.state any).memo.entries) → IsErrOf result ParseFault.StepLimit
             → (calls : List RuleCall) × GetsCalls W.records W.traced watch.old watch.new calls
             × AreCallsSoFar (parser_rules self.now) text.now (name_of (parser_rules self.now) start) max_steps calls
             × AreFirstCalls (parser_rules self.now) text.now (name_of (parser_rules self.now) start) calls }
     {
-        match run_selecting(
+        match run_in_store(
             alloc,
             &self.program,
             text,
             start,
             among,
-            memo,
+            store,
             watch,
             max_steps,
         ) {

@@ -12,17 +12,17 @@ use Rattle.peg_parser.proofs.ParseLemmas.{parse_of_run}
 use Rattle.peg_parser.proofs.TraceLemmas.{parser-calls, parser-calls-in-order, parser-calls-so-far, parser-first-calls}
 use Rattle.peg_parser.proofs.parser.Parser.answer.Goals as goal
 
-pub run_selecting-requires-clause-rule : goal.run_selecting-requires-clause-rule
-run_selecting-requires-clause-rule g c = omega (arith, c.requires.start, length-bodies c.args.self.now)
+pub run_in_store-requires-clause-rule : goal.run_in_store-requires-clause-rule
+run_in_store-requires-clause-rule g c = omega (arith, c.requires.start, length-bodies c.args.self.now)
 
 -- ---- what the parse promises follows from what its run promises
 
 pub returns-in-Ok-clause-parse : goal.returns-in-Ok-clause-parse
 returns-in-Ok-clause-parse g c named found =
     parse_of_run (listed c.args.among) c.args.self.now c.args.text.now c.args.start named c.args.max_steps
-    (NeverStores g.K.Keep.entries) (g.K.Keep.capacity c.args.memo.now)
-    (g.K.Keep.allocation_failed c.run_selecting.new.memo)
-    (GetsCalls g.W.Watch.records g.W.Watch.traced c.args.watch.now c.run_selecting.new.watch) c.requires.start found
+    (NeverStores (λ any. (g.S.NodeStore.state any).memo.entries)) (g.S.NodeStore.state c.args.store.now).memo.capacity
+    (g.S.NodeStore.state c.run_in_store.new.store).memo.allocation_failed
+    (GetsCalls g.W.Watch.records g.W.Watch.traced c.args.watch.now c.run_in_store.new.watch) c.requires.start found
     (Ok c.in-Ok.answer)
     (All-from_get_or (λ byte. byte < 256) c.args.text.now 0 (λ i within. (c.type_inv.text i).fits))
     c.in-Ok.ensures.run
@@ -30,44 +30,44 @@ returns-in-Ok-clause-parse g c named found =
 pub returns-in-Err-TextTooLong-clause-parse : goal.returns-in-Err-TextTooLong-clause-parse
 returns-in-Err-TextTooLong-clause-parse g c named found =
     parse_of_run (listed c.args.among) c.args.self.now c.args.text.now c.args.start named c.args.max_steps
-    (NeverStores g.K.Keep.entries) (g.K.Keep.capacity c.args.memo.now)
-    (g.K.Keep.allocation_failed c.run_selecting.new.memo)
-    (GetsCalls g.W.Watch.records g.W.Watch.traced c.args.watch.now c.run_selecting.new.watch) c.requires.start found
+    (NeverStores (λ any. (g.S.NodeStore.state any).memo.entries)) (g.S.NodeStore.state c.args.store.now).memo.capacity
+    (g.S.NodeStore.state c.run_in_store.new.store).memo.allocation_failed
+    (GetsCalls g.W.Watch.records g.W.Watch.traced c.args.watch.now c.run_in_store.new.watch) c.requires.start found
     (Err run.TextTooLong)
     (All-from_get_or (λ byte. byte < 256) c.args.text.now 0 (λ i within. (c.type_inv.text i).fits))
     (subst (λ (result : Result Answer RunFault). IsRun (listed c.args.among) (bodies_of c.args.self.now.program.core)
-    c.args.text.now c.args.start c.args.max_steps (NeverStores g.K.Keep.entries) (g.K.Keep.capacity c.args.memo.now)
-    (g.K.Keep.allocation_failed c.run_selecting.new.memo)
-    (GetsCalls g.W.Watch.records g.W.Watch.traced c.args.watch.now c.run_selecting.new.watch) result)
-    (c.in-Err-TextTooLong.is ∙ ap Err c.in-Err-TextTooLong.field-0-is) c.run_selecting.ensures.run)
+    c.args.text.now c.args.start c.args.max_steps (NeverStores (λ any. (g.S.NodeStore.state any).memo.entries)) (g.S.NodeStore.state c.args.store.now).memo.capacity
+    (g.S.NodeStore.state c.run_in_store.new.store).memo.allocation_failed
+    (GetsCalls g.W.Watch.records g.W.Watch.traced c.args.watch.now c.run_in_store.new.watch) result)
+    (c.in-Err-TextTooLong.is ∙ ap Err c.in-Err-TextTooLong.field-0-is) c.run_in_store.ensures.run)
 
 pub returns-in-Err-StepLimit-clause-parse : goal.returns-in-Err-StepLimit-clause-parse
 returns-in-Err-StepLimit-clause-parse g c named found =
     parse_of_run (listed c.args.among) c.args.self.now c.args.text.now c.args.start named c.args.max_steps
-    (NeverStores g.K.Keep.entries) (g.K.Keep.capacity c.args.memo.now)
-    (g.K.Keep.allocation_failed c.run_selecting.new.memo)
-    (GetsCalls g.W.Watch.records g.W.Watch.traced c.args.watch.now c.run_selecting.new.watch) c.requires.start found
+    (NeverStores (λ any. (g.S.NodeStore.state any).memo.entries)) (g.S.NodeStore.state c.args.store.now).memo.capacity
+    (g.S.NodeStore.state c.run_in_store.new.store).memo.allocation_failed
+    (GetsCalls g.W.Watch.records g.W.Watch.traced c.args.watch.now c.run_in_store.new.watch) c.requires.start found
     (Err run.StepLimit)
     (All-from_get_or (λ byte. byte < 256) c.args.text.now 0 (λ i within. (c.type_inv.text i).fits))
     (subst (λ (result : Result Answer RunFault). IsRun (listed c.args.among) (bodies_of c.args.self.now.program.core)
-    c.args.text.now c.args.start c.args.max_steps (NeverStores g.K.Keep.entries) (g.K.Keep.capacity c.args.memo.now)
-    (g.K.Keep.allocation_failed c.run_selecting.new.memo)
-    (GetsCalls g.W.Watch.records g.W.Watch.traced c.args.watch.now c.run_selecting.new.watch) result)
-    (c.in-Err-StepLimit.is ∙ ap Err c.in-Err-StepLimit.field-0-is) c.run_selecting.ensures.run)
+    c.args.text.now c.args.start c.args.max_steps (NeverStores (λ any. (g.S.NodeStore.state any).memo.entries)) (g.S.NodeStore.state c.args.store.now).memo.capacity
+    (g.S.NodeStore.state c.run_in_store.new.store).memo.allocation_failed
+    (GetsCalls g.W.Watch.records g.W.Watch.traced c.args.watch.now c.run_in_store.new.watch) result)
+    (c.in-Err-StepLimit.is ∙ ap Err c.in-Err-StepLimit.field-0-is) c.run_in_store.ensures.run)
 
 pub returns-in-Err-Memory-clause-parse : goal.returns-in-Err-Memory-clause-parse
 returns-in-Err-Memory-clause-parse g c named found =
     parse_of_run (listed c.args.among) c.args.self.now c.args.text.now c.args.start named c.args.max_steps
-    (NeverStores g.K.Keep.entries) (g.K.Keep.capacity c.args.memo.now)
-    (g.K.Keep.allocation_failed c.run_selecting.new.memo)
-    (GetsCalls g.W.Watch.records g.W.Watch.traced c.args.watch.now c.run_selecting.new.watch) c.requires.start found
+    (NeverStores (λ any. (g.S.NodeStore.state any).memo.entries)) (g.S.NodeStore.state c.args.store.now).memo.capacity
+    (g.S.NodeStore.state c.run_in_store.new.store).memo.allocation_failed
+    (GetsCalls g.W.Watch.records g.W.Watch.traced c.args.watch.now c.run_in_store.new.watch) c.requires.start found
     (Err run.Memory)
     (All-from_get_or (λ byte. byte < 256) c.args.text.now 0 (λ i within. (c.type_inv.text i).fits))
     (subst (λ (result : Result Answer RunFault). IsRun (listed c.args.among) (bodies_of c.args.self.now.program.core)
-    c.args.text.now c.args.start c.args.max_steps (NeverStores g.K.Keep.entries) (g.K.Keep.capacity c.args.memo.now)
-    (g.K.Keep.allocation_failed c.run_selecting.new.memo)
-    (GetsCalls g.W.Watch.records g.W.Watch.traced c.args.watch.now c.run_selecting.new.watch) result)
-    (c.in-Err-Memory.is ∙ ap Err c.in-Err-Memory.field-0-is) c.run_selecting.ensures.run)
+    c.args.text.now c.args.start c.args.max_steps (NeverStores (λ any. (g.S.NodeStore.state any).memo.entries)) (g.S.NodeStore.state c.args.store.now).memo.capacity
+    (g.S.NodeStore.state c.run_in_store.new.store).memo.allocation_failed
+    (GetsCalls g.W.Watch.records g.W.Watch.traced c.args.watch.now c.run_in_store.new.watch) result)
+    (c.in-Err-Memory.is ∙ ap Err c.in-Err-Memory.field-0-is) c.run_in_store.ensures.run)
 
 -- ---- the calls
 
@@ -86,7 +86,7 @@ returns-in-Ok-clause-traced g c =
 pub returns-in-Ok-clause-in_order : goal.returns-in-Ok-clause-in_order
 returns-in-Ok-clause-in_order g c never =
     parser-calls-in-order c.args.self.now c.args.text.now c.args.start
-    (GetsCalls g.W.Watch.records g.W.Watch.traced c.args.watch.now c.run_selecting.new.watch)
+    (GetsCalls g.W.Watch.records g.W.Watch.traced c.args.watch.now c.run_in_store.new.watch)
     (All-from_get_or (λ byte. byte < 256) c.args.text.now 0 (λ i within. (c.type_inv.text i).fits)) c.requires.start
     (c.in-Ok.ensures.run.in_order never)
 
@@ -94,21 +94,21 @@ returns-in-Ok-clause-in_order g c never =
 pub returns-in-Err-StepLimit-clause-stopped : goal.returns-in-Err-StepLimit-clause-stopped
 returns-in-Err-StepLimit-clause-stopped g c is =
     let limit = c.in-Err-StepLimit.is ∙ ap Err c.in-Err-StepLimit.field-0-is in
-    let traced = c.run_selecting.ensures.run.traced in (
+    let traced = c.run_in_store.ensures.run.traced in (
       traced.0,
       traced.1,
       parser-calls-so-far c.args.self.now c.args.text.now c.args.start c.args.max_steps traced.0
           (All-from_get_or (λ byte. byte < 256) c.args.text.now 0 (λ i within. (c.type_inv.text i).fits))
           c.requires.start
           (subst (λ (result : Result Answer RunFault). Traces (bodies_of c.args.self.now.program.core) c.args.text.now
-          c.args.start (g.K.Keep.capacity c.args.memo.now) (g.K.Keep.allocation_failed c.run_selecting.new.memo)
+          c.args.start (g.S.NodeStore.state c.args.store.now).memo.capacity (g.S.NodeStore.state c.run_in_store.new.store).memo.allocation_failed
           c.args.max_steps result traced.0) limit traced.2),
     )
 
 pub returns-in-Err-StepLimit-clause-stopped_in_order : goal.returns-in-Err-StepLimit-clause-stopped_in_order
 returns-in-Err-StepLimit-clause-stopped_in_order g c never is =
     let bytes = (All-from_get_or (λ byte. byte < 256) c.args.text.now 0 (λ i within. (c.type_inv.text i).fits)) in
-    let traced = c.run_selecting.ensures.run.stopped never (c.in-Err-StepLimit.is ∙ ap Err c.in-Err-StepLimit.field-0-is) in (
+    let traced = c.run_in_store.ensures.run.stopped never (c.in-Err-StepLimit.is ∙ ap Err c.in-Err-StepLimit.field-0-is) in (
       traced.0,
       traced.1,
       parser-calls-so-far c.args.self.now c.args.text.now c.args.start c.args.max_steps traced.0 bytes c.requires.start

@@ -1,17 +1,8 @@
 use Rattle.std.proofs.Common.{rules as by_rules, ◌≡◌, arith}
-use Rattle.std.specs.FinMap.{len-empty}
 use Rattle.peg_machine.specs.SelectedTests.{listed}
-use Rattle.peg_memo.specs.StoredResult.{StoredResult}
-use Rattle.peg_memo.specs.MemoKey.{key_cmp}
 use Rattle.peg_parser.specs.Parser.{parser_rules, start_named}
 use Rattle.peg_parser.proofs.ParseLemmas.{parse_if_plain, parse_within, parse_without_start}
 use Rattle.peg_parser.proofs.parser.Parser.parse_selecting.Goals as goal
-
-pub answer-requires-clause-empty : goal.answer-requires-clause-empty
-answer-requires-clause-empty c = len-empty key_cmp StoredResult
-
-pub answer-requires-2-clause-empty : goal.answer-requires-2-clause-empty
-answer-requires-2-clause-empty c = len-empty key_cmp StoredResult
 
 pub returns-in_default : goal.returns-in_default
 returns-in_default c = record {
@@ -23,18 +14,18 @@ returns-in_default c = record {
 pub returns-then-options-eq0 : goal.returns-then-options-eq0
 returns-then-options-eq0 c = record {
   parse = parse_if_plain (listed c.args.among) (parser_rules c.args.self.now) c.args.text.now
-      (start_named c.args.options.now) c.args.options.now.steps c.answer.result
-      (λ _ any. len-empty key_cmp StoredResult)
-      (c.answer.ensures.parse (start_named c.args.options.now) c.in-Some.ensures.named);
+      (start_named c.args.options.now) c.args.options.now.steps c.answer_plain.result
+      (λ _. tt)
+      (c.answer_plain.ensures.parse (start_named c.args.options.now) c.in-Some.ensures.named);
 }
 
 -- the first run is enough
-pub returns-in_default-answer-2 : goal.returns-in_default-answer-2
-returns-in_default-answer-2 c = record {
+pub returns-in_default-answer_plain-2 : goal.returns-in_default-answer_plain-2
+returns-in_default-answer_plain-2 c = record {
   parse = parse_within (listed c.args.among) (parser_rules c.args.self.now) c.args.text.now
       (start_named c.args.options.now) c.plain_steps-plain_steps.result
-      c.args.options.now.steps c.answer-2.result (λ none. absurd (omega (arith, none))) (λ limit. search by_rules) c.plain_steps-plain_steps.ensures
-      (c.answer-2.ensures.parse (start_named c.args.options.now) c.in-Some.ensures.named);
+      c.args.options.now.steps c.answer_plain-2.result (λ none. absurd (omega (arith, none))) (λ limit. search by_rules) c.plain_steps-plain_steps.ensures
+      (c.answer_plain-2.ensures.parse (start_named c.args.options.now) c.in-Some.ensures.named);
 }
 
 -- it is not

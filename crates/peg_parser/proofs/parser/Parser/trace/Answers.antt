@@ -1,17 +1,11 @@
 use Rattle.std.proofs.Common.{◌≡◌, ℕ, IfSome, List, None, Option, arith, refl, subst, sym}
 use Rattle.std.proofs.lemmas.Result.{on_ok_weaker}
-use Rattle.std.specs.FinMap.{len-empty}
 use Rattle.peg_machine.specs.Traced.{GetsCalls}
-use Rattle.peg_memo.specs.StoredResult.{StoredResult}
-use Rattle.peg_memo.specs.MemoKey.{key_cmp}
 use Rattle.peg_parser.specs.Calls.{TracesCallsInOrder, TracesCallsSoFar}
 use Rattle.peg_parser.specs.Parser.{parser_rules, start_named}
 use Rattle.peg_semantics.specs.Rules.{name_of}
 use Rattle.peg_parser.proofs.ParseLemmas.{parse_if_plain, parse_of_long_text, parse_without_start}
 use Rattle.peg_parser.proofs.parser.Parser.trace.Goals as goal
-
-pub answer-requires-clause-empty : goal.answer-requires-clause-empty
-answer-requires-clause-empty g c = len-empty key_cmp StoredResult
 
 -- ---- before a run
 
@@ -30,25 +24,25 @@ returns-in-Some-clause-parse g c =
 
 pub returns-in-Some-2-clause-parse : goal.returns-in-Some-2-clause-parse
 returns-in-Some-2-clause-parse g c =
-    parse_if_plain None (parser_rules c.args.self.now) c.args.text.now (start_named c.args.options.now) c.args.options.now.steps c.answer.result (λ _ any. len-empty key_cmp StoredResult)
-    (c.answer.ensures.parse (start_named c.args.options.now) c.in-Some.ensures.named)
+    parse_if_plain None (parser_rules c.args.self.now) c.args.text.now (start_named c.args.options.now) c.args.options.now.steps c.answer_plain.result (λ _. tt)
+    (c.answer_plain.ensures.parse (start_named c.args.options.now) c.in-Some.ensures.named)
 
 pub returns-in-Some-2-clause-in_order : goal.returns-in-Some-2-clause-in_order
 returns-in-Some-2-clause-in_order g c none =
-    on_ok_weaker c.answer.result
+    on_ok_weaker c.answer_plain.result
     (λ in_order. subst
     (λ (named : Option (List ℕ)). IfSome named (λ start. TracesCallsInOrder (parser_rules c.args.self.now) c.args.text.now start
-    (GetsCalls g.W.Watch.records g.W.Watch.traced c.args.watch.now c.answer.new.watch)))
+    (GetsCalls g.W.Watch.records g.W.Watch.traced c.args.watch.now c.answer_plain.new.watch)))
     (sym c.in-Some.ensures.named) in_order)
-    (c.answer.ensures.in_order (λ any. len-empty key_cmp StoredResult))
+    c.answer_plain.ensures.in_order
 
 pub returns-in-Some-2-clause-stopped : goal.returns-in-Some-2-clause-stopped
 returns-in-Some-2-clause-stopped g c is =
-    let all = c.answer.ensures.stopped_in_order (λ any. len-empty key_cmp StoredResult) is in
+    let all = c.answer_plain.ensures.stopped is in
     subst
     (λ (named : Option (List ℕ)). IfSome named (λ start. TracesCallsSoFar (parser_rules c.args.self.now) c.args.text.now start
     c.args.options.now.memo c.args.options.now.steps
-    (GetsCalls g.W.Watch.records g.W.Watch.traced c.args.watch.now c.answer.new.watch)))
+    (GetsCalls g.W.Watch.records g.W.Watch.traced c.args.watch.now c.answer_plain.new.watch)))
     (sym c.in-Some.ensures.named) (all.0, all.1, all.2, λ _. all.3)
 
 -- ---- with a memo

@@ -1,0 +1,6 @@
+pub mod Expansion
+pub mod Linked
+pub mod OpenNodes
+pub mod Invariant
+pub mod Places
+pub mod Ranges
