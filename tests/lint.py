@@ -86,10 +86,9 @@ class Lists:
             self.report(file, options, [f"status {status}: {line}"])
             return []
         printed = json.loads(line)["warnings"]
-        finder = Finder(file, options.start)
-        wanted = [warning for warning in finder.warnings() if warning["kind"] in PROVED or not options.is_proved]
-        known = finder.known_faults()
-        faults = list(differences(wanted, [warning for warning in printed if warning not in known]))
+        found = Finder(file, options.start).warnings()
+        wanted = [warning for warning in found if warning["kind"] in PROVED or not options.is_proved]
+        faults = list(differences(wanted, printed))
         self.report(file, options, faults if status == bool(printed) else [*faults, f"status {status}\n"])
         return printed
 

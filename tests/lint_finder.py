@@ -158,17 +158,6 @@ class Finder:
         if dot and SPACING.fullmatch(self.file, dot.end, self.definitions[number + 1][0].start):
             yield part_of("AnyAtEnd", dot)
 
-    def known_faults(self) -> list[dict[str, object]]:
-        """Warnings that the tool prints against LINT.md. In `S <- ('a' .)` a parenthesis is at the end of the rule, and
-        no dot. The tool reports AnyAtEnd, since it compares the end of the dot with the end of the expression, which is
-        before the parenthesis."""
-        found = []
-        for number, (name, body) in enumerate(self.definitions):
-            dot = self.last_dot(number)
-            if dot and dot.end == body.end and not list(self.dot_at_end(number)):
-                found.append(self.members(name.value, part_of("AnyAtEnd", dot)))
-        return found
-
 
 def empty_alternatives(choice: Expr):
     """EmptyAlternative: the alternatives but the last with nothing written in them."""

@@ -12,8 +12,10 @@ use Rattle.peg_semantics.specs.Record.{Recognition, Failed, Matched, Record, Rec
 use Rattle.peg_semantics.specs.Record.{then_result, then_at, choice_result, or_else, star_result, if_matched, if_failed, with_result, literal_at}
 use Rattle.peg_semantics.specs.Record.{byte_at, as_call, recognize_seq, recognize_choice, recognize_repeat, table, record_in}
 use Rattle.peg_semantics.proofs.RulesLemmas.{meaning, meant-position, meant-no_position}
+use Rattle.peg_lint.specs.Reaches.{Reaches}
 use Rattle.peg_lint.specs.Reaching.{AreClosed, AreNamesMarked, IsMarked, IsNameMarked}
-use Rattle.peg_lint.specs.Warnings.{IsNeverCalled, IsUnusedRule, extent_of}
+use Rattle.peg_lint.specs.Warnings.{IsNeverCalled, IsUnreached, IsUnusedRule}
+use Rattle.peg_lint.proofs.ReachLemmas.{reached-marked}
 
 -- names in two lists
 names-front : (rules : List Rule) (marks : List Bool) (xs ys : List Reference) → AreNamesMarked rules marks (xs ++ ys)
@@ -234,12 +236,16 @@ never_called rules marks start number closed named free text n r is =
 pub unused_rule : (rules : List Rule) (marks : List Bool) (start number : ℕ) (span : Extent)
     → AreClosed rules marks → IsNameMarked rules marks (name_of rules start) → get_or marks number false ≡ false
     → option_map (λ (r : Rule). r.span) (slice_get rules number) ≡ Some span
-    → IsUnusedRule rules start number span
+    → IsUnusedRule rules start number span × IsUnreached rules start number span
 unused_rule rules marks start number span closed named free at = by (slice_get rules number) refl at
   where
     by : (found : Option Rule) → slice_get rules number ≡ found → option_map (λ (r : Rule). r.span) found ≡ Some span
-        → IsUnusedRule rules start number span
+        → IsUnusedRule rules start number span × IsUnreached rules start number span
     by None is at = absurd cc
     by (Some rule) is at =
         let same : rule.span ≡ span = cc in
-        (rule, is, same, never_called rules marks start number closed named free)
+        let unreached : ¬ Reaches rules start number =
+        λ reaches. let bad : true ≡ false = sym (reached-marked rules start marks closed named reaches) ∙ free in cc in (
+          (rule, is, same, never_called rules marks start number closed named free),
+          record { rule = rule; at = is; span_is = same; unreached = unreached },
+        )

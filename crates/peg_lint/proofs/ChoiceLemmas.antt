@@ -1,60 +1,15 @@
 -- Alternatives that come before others.
-use Rattle.std.proofs.Common.{◌≡◌, ℕ, zero, suc, ◌+◌, ◌<◌, inl, inr, List, [], ◌∷◌, length, map, get_or, drop, slice_get, Some, refl, sym, ap, subst, arith}
-use Rattle.peg_bytes.specs.Extent.{Extent}
-use Rattle.peg_check.specs.Cans.{can_of}
-use Rattle.peg_check.specs.declared.can.Can as code
+use Rattle.std.proofs.Common.{◌≡◌, ℕ, zero, suc, ◌+◌, ◌<◌, inl, inr, List, [], ◌∷◌, length, map, get_or, slice_get, Some, true, false, refl, sym, ap, ◌∙◌, subst, arith}
+use Rattle.peg_semantics.specs.AbstractOutcomes.{Can}
 use Rattle.peg_grammar.specs.Written.{form_of}
 use Rattle.peg_grammar.specs.declared.expr.Expr.{Expr}
-use Rattle.peg_semantics.specs.Form.{Form, Forms, Then, forms}
+use Rattle.peg_semantics.specs.Form.{Form, forms}
 use Rattle.peg_semantics.specs.RuleOutcomes.{IsAbstractOutcome}
 use Rattle.peg_semantics.specs.Rules.{Rule}
-use Rattle.peg_lint.specs.Linting.{IsBefore}
-use Rattle.peg_lint.specs.Never.{NeverFails}
+use Rattle.peg_lint.specs.Excluded.{CannotFail}
+use Rattle.peg_lint.specs.Linting.{AllFail, can_at}
 use Rattle.peg_lint.specs.Outcomes.{AreOutcomes}
-use Rattle.peg_lint.specs.Warnings.{ComesBefore, IsAmong, extent_of}
-
-module _ (rules : List Rule) (first : Form) (rest : Forms) where
-  -- the first alternative comes before the others
-  pub IsBefore-first : (span : Extent) → extent_of first ≡ span → NeverFails rules first
-      → IsBefore rules first rest rest span
-  IsBefore-first span at never = (first, at, never, λ later among. inl (refl, among))
-
-  -- what comes before the remaining alternatives comes before all but the first of them
-  pub IsBefore-next : (now after : Forms) (e : Form) (span : Extent) → now ≡ Then e after
-      → IsBefore rules first rest now span → IsBefore rules first rest after span
-  IsBefore-next now after e span step (earlier, at, never, before) = (
-    earlier,
-    at,
-    never,
-    λ later among. before later (subst (λ (l : Forms). IsAmong l later) (sym step) (inr among)),
-  )
-
--- an alternative comes before those after it
-comes_before : (items : List Expr) (i : ℕ) (item : Expr) → i < length items → item ≡ get_or items i item → (later : Form)
-    → IsAmong (forms (drop (i + 1) (map form_of items))) later
-    → ComesBefore (forms (map form_of items)) (form_of item) later
-comes_before [] i item within is later among = absurd (omega (arith, within))
-comes_before (x ∷ xs) zero item within is later among = inl (ap form_of (sym is), among)
-comes_before (x ∷ xs) (suc i) item within is later among =
-    inr (comes_before xs i item (omega (arith, within)) is later
-    (subst (λ n. IsAmong (forms (drop n (map form_of (x ∷ xs)))) later) (let same : suc i + 1 ≡ suc (i + 1) = omega arith in same) among))
-
-pub IsBefore-here : (rules : List Rule) (first : Form) (items : List Expr) (i : ℕ) (item : Expr) (span : Extent)
-    → i < length items → item ≡ get_or items i item → extent_of (form_of item) ≡ span → NeverFails rules (form_of item)
-    → IsBefore rules first (forms (map form_of items)) (forms (drop (i + 1) (map form_of items))) span
-IsBefore-here rules first items i item span within is at never =
-    (form_of item, at, never, λ later among. inr (comes_before items i item within is later among))
-
--- the outcomes at an index are those of the expression there
-pub outcome-at : (rules : List Rule) (items : List Expr) (cans : List code.Can) (i : ℕ) (item : Expr) (d : code.Can)
-    → AreOutcomes rules (forms (map form_of items)) (map can_of cans) → i < length items → item ≡ get_or items i item
-    → IsAbstractOutcome rules (form_of item) (can_of (get_or cans i d))
-outcome-at rules [] cans i item d are within is = absurd (omega (arith, within))
-outcome-at rules (x ∷ xs) [] i item d are within is = absurd are
-outcome-at rules (x ∷ xs) (c ∷ cs) zero item d are within is =
-    subst (λ (e : Expr). IsAbstractOutcome rules (form_of e) (can_of c)) (sym is) are.0
-outcome-at rules (x ∷ xs) (c ∷ cs) (suc i) item d are within is =
-    outcome-at rules xs cs i item d are.1 (omega (arith, within)) is
+use Rattle.peg_lint.specs.Warnings.{ComesBefore, IsAmong, IsUntried}
 
 -- an expression at an index is one of them
 among : (items : List Expr) (i : ℕ) (item : Expr) → slice_get items i ≡ Some item
@@ -82,3 +37,103 @@ before-some (x ∷ xs) (suc i) one within at =
     let more : (later : Form) × ComesBefore (forms (map form_of xs)) (form_of one) later =
     before-some xs i one (omega (arith, within)) at in
     (more.0, inr more.1)
+
+-- the expression of an alternative at an index
+pub form-at : (items : List Expr) (k : ℕ) (one : Expr) → slice_get items k ≡ Some one
+    → slice_get (map form_of items) k ≡ Some (form_of one)
+form-at [] k one at = cc
+form-at (x ∷ xs) zero one at = let same : x ≡ one = cc in ap (λ (e : Expr). Some (form_of e)) same
+form-at (x ∷ xs) (suc k) one at = form-at xs k one at
+
+-- among no expressions there is none
+some-among : (es : List Form) (later : Form) → IsAmong (forms es) later → 0 < length es
+some-among [] later is = absurd is
+some-among (e ∷ es) later is = omega arith
+
+-- an expression that comes before another is at an index
+pub comes-before-at : (es : List Form) (earlier later : Form) → ComesBefore (forms es) earlier later
+    → (k : ℕ) × (k + 1 < length es) × (slice_get es k ≡ Some earlier)
+comes-before-at [] earlier later is = absurd is
+comes-before-at (e ∷ es) earlier later (inl here) =
+    let more = some-among es later here.1 in
+    (0, omega (arith, more), ap (λ (f : Form). Some f) here.0)
+comes-before-at (e ∷ es) earlier later (inr rest) =
+    let found : (k : ℕ) × (k + 1 < length es) × (slice_get es k ≡ Some earlier) = comes-before-at es earlier later rest in
+    (suc found.0, omega (arith, found.1), found.2)
+
+-- ---- the first alternative that cannot fail
+
+among-at : (es : List Form) (k : ℕ) (e : Form) → slice_get es k ≡ Some e → IsAmong (forms es) e
+among-at [] k e at = cc
+among-at (x ∷ es) zero e at = let same : x ≡ e = cc in inl same
+among-at (x ∷ es) (suc k) e at = inr (among-at es k e at)
+
+at-among : (es : List Form) (e : Form) → IsAmong (forms es) e → (k : ℕ) × (slice_get es k ≡ Some e)
+at-among [] e is = absurd is
+at-among (x ∷ es) e (inl same) = (0, ap (λ (f : Form). Some f) same)
+at-among (x ∷ es) e (inr more) =
+    let found : (k : ℕ) × (slice_get es k ≡ Some e) = at-among es e more in (suc found.0, found.1)
+
+pub certain-excluded : (rules : List Rule) (e : Form) (can : Can) → IsAbstractOutcome rules e can → can.fails ≡ false
+    → CannotFail rules e
+certain-excluded rules e can is never fails = let bad : true ≡ false = sym (is.fails.1 fails) ∙ never in cc
+
+-- the outcomes of an expression at an index
+pub outcome-at : (rules : List Rule) (es : List Form) (cans : List Can) (k : ℕ) (e : Form) → AreOutcomes rules (forms es) cans
+    → slice_get es k ≡ Some e → IsAbstractOutcome rules e (can_at cans k)
+outcome-at rules [] cans k e are at = cc
+outcome-at rules (x ∷ es) [] k e are at = absurd are
+outcome-at rules (x ∷ es) (c ∷ cs) zero e are at =
+    let same : x ≡ e = cc in subst (λ (f : Form). IsAbstractOutcome rules f c) same are.0
+outcome-at rules (x ∷ es) (c ∷ cs) (suc k) e are at = outcome-at rules es cs k e are.1 at
+
+-- an alternative after the first one that cannot fail
+pub untried-from : (rules : List Rule) (es : List Form) (cans : List Can) (i j : ℕ) (a b : Form)
+    → AreOutcomes rules (forms es) cans → i < j → slice_get es i ≡ Some a → slice_get es j ≡ Some b
+    → (can_at cans i).fails ≡ false → ((k : ℕ) → k < i → (can_at cans k).fails ≡ true) → IsUntried rules (forms es) a b
+untried-from rules [] cans i j a b are less at there certain before = cc
+untried-from rules (e ∷ es) [] i j a b are less at there certain before = absurd are
+untried-from rules (e ∷ es) (c ∷ cs) i zero a b are less at there certain before = absurd (omega (arith, less))
+untried-from rules (e ∷ es) (c ∷ cs) zero (suc j) a b are less at there certain before =
+    let same : e ≡ a = cc in
+    inl (same, certain-excluded rules e c are.0 certain, among-at es j b there)
+untried-from rules (e ∷ es) (c ∷ cs) (suc i) (suc j) a b are less at there certain before =
+    inr (
+      are.0.fails.0 (before 0 (omega arith)),
+      untried-from rules es cs i j a b are.1 (omega (arith, less)) at there
+          certain (λ k below. before (suc k) (omega (arith, below))),
+    )
+
+-- the first one that cannot fail is the only one
+pub untried-at : (rules : List Rule) (es : List Form) (cans : List Can) (n : ℕ) (a b : Form)
+    → AreOutcomes rules (forms es) cans → (can_at cans n).fails ≡ false
+    → ((k : ℕ) → k < n → (can_at cans k).fails ≡ true) → IsUntried rules (forms es) a b
+    → (j : ℕ) × (n < j) × (slice_get es n ≡ Some a) × (slice_get es j ≡ Some b)
+untried-at rules [] cans n a b are certain before is = absurd is
+untried-at rules (e ∷ es) [] n a b are certain before is = absurd are
+untried-at rules (e ∷ es) (c ∷ cs) zero a b are certain before (inl here) =
+    let found = at-among es b here.2 in
+    (suc found.0, omega arith, ap (λ (f : Form). Some f) here.0, found.1)
+untried-at rules (e ∷ es) (c ∷ cs) zero a b are certain before (inr rest) =
+    absurd (certain-excluded rules e c are.0 certain rest.0)
+untried-at rules (e ∷ es) (c ∷ cs) (suc n) a b are certain before (inl here) =
+    absurd (here.1 (are.0.fails.0 (before 0 (omega arith))))
+untried-at rules (e ∷ es) (c ∷ cs) (suc n) a b are certain before (inr rest) =
+    let found : (j : ℕ) × (n < j) × (slice_get es n ≡ Some a) × (slice_get es j ≡ Some b) =
+    untried-at rules es cs n a b are.1 certain (λ k below. before (suc k) (omega (arith, below))) rest.1 in
+    (suc found.0, omega (arith, found.1), found.2, found.3)
+
+-- where all can fail, none is untried
+pub none-untried : (rules : List Rule) (es : List Form) (cans : List Can) (a b : Form) → AreOutcomes rules (forms es) cans
+    → AllFail cans → IsUntried rules (forms es) a b → ⊥
+none-untried rules [] cans a b are all is = is
+none-untried rules (e ∷ es) [] a b are all is = are
+none-untried rules (e ∷ es) (c ∷ cs) a b are all (inl here) = here.1 (are.0.fails.0 (all 0 (omega arith)))
+none-untried rules (e ∷ es) (c ∷ cs) a b are all (inr rest) =
+    none-untried rules es cs a b are.1 (λ k below. all (suc k) (omega (arith, below))) rest.1
+
+pub some-at : (items : List Expr) (k : ℕ) (one : Expr) → k < length items → one ≡ get_or items k one
+    → slice_get items k ≡ Some one
+some-at [] k one within at = absurd (omega (arith, within))
+some-at (x ∷ xs) zero one within at = ap (λ (e : Expr). Some e) (sym at)
+some-at (x ∷ xs) (suc k) one within at = some-at xs k one (omega (arith, within)) at

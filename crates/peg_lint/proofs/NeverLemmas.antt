@@ -27,3 +27,19 @@ no_success true something false e h = absurd (let bad : false ≡ true = e in cc
 no_success false true true e h = absurd (let bad : false ≡ true = h in cc)
 no_success false true false e h = absurd (let bad : false ≡ true = e in cc)
 no_success false false can e h = (λ bad. cc, λ bad. cc)
+
+-- outcomes without 0 and 1 exclude success
+pub success_excluded : (nothing something can : Bool) → can ≡ (nothing || something) → (nothing ≡ true → ⊥)
+    → (something ≡ true → ⊥) → IsTrue (not can)
+success_excluded true something can e none nor = absurd (none refl)
+success_excluded false true can e none nor = absurd (nor refl)
+success_excluded false false can e none nor = ap not e
+
+-- a test that isn't true
+pub not_true : (b : Bool) → (b ≡ true → ⊥) → IsTrue (not b)
+not_true true none = absurd (none refl)
+not_true false none = refl
+
+pub true_not : (b : Bool) → IsTrue (not b) → b ≡ true → ⊥
+true_not true h same = let bad : false ≡ true = h in cc
+true_not false h same = cc

@@ -2,31 +2,31 @@
 use Rattle.std.proofs.Common.{◌≡◌, ℕ, zero, suc, ◌<◌, ◌⊎◌, inl, inr, List, [], ◌∷◌, ◌++◌, Contains, length, get_or}
 use Rattle.std.proofs.Common.{map, slice_get, Option, None, Some, option_map, refl, sym, ap, ◌∙◌, subst, arith}
 use Rattle.std.proofs.lemmas.List.{append-nil, append_assoc}
-use Rattle.std.proofs.lemmas.List.Elements.{All-push, Contains-append_left, Contains-append_right}
+use Rattle.std.proofs.lemmas.List.Elements.{Contains-append_left, Contains-append_right}
 use Rattle.peg_bytes.specs.Extent.{Extent, extent}
 use Rattle.peg_bytes.specs.ByteSet.{bytes_of}
 use Rattle.peg_bytes.specs.declared.byte_set.ByteSet.{ByteSet}
 use Rattle.peg_bytes.specs.declared.span.Span.{Span}
-use Rattle.peg_grammar.proofs.WrittenForms.{form_of-Optional, form_of-Star, form_of-Plus, form_of-Counted, form_of-And, form_of-Not}
+use Rattle.peg_grammar.proofs.WrittenForms.{form_of-Name, form_of-Optional, form_of-Star, form_of-Plus, form_of-Counted, form_of-And, form_of-Not}
 use Rattle.peg_grammar.specs.Written.{form_of, node_form}
 use Rattle.peg_grammar.specs.declared.expr.Expr.TheFolds.{fold-roll-Expr}
 use Rattle.peg_grammar.specs.declared.expr.Expr.TheOpen as layer
-use Rattle.peg_grammar.specs.declared.expr.Expr.TheVariants.{Literal, Class, Any, rolls-Literal, rolls-Class, rolls-Any}
+use Rattle.peg_grammar.specs.declared.expr.Expr.TheVariants.{Literal, Class, Any, Name, rolls-Literal, rolls-Class, rolls-Any}
 use Rattle.peg_grammar.specs.declared.expr.Expr.TheViews as code
 use Rattle.std.specs.declared.alloc.Global.{Global}
 use Rattle.std.specs.declared.boxed.Box.{Box}
+use Rattle.std.specs.declared.string.String.{String}
 use Rattle.std.specs.declared.vec.Vec.{Vec}
 use Rattle.peg_grammar.specs.declared.expr.Expr.{Expr}
 use Rattle.peg_semantics.specs.AbstractOutcomes.{Can}
 use Rattle.peg_semantics.specs.Form as form
-use Rattle.peg_semantics.specs.Form.{Form, Forms, Choice, End, Then, forms}
+use Rattle.peg_semantics.specs.Form.{Form, Forms, Choice, End, Then, forms, names_used}
 use Rattle.peg_semantics.specs.RuleOutcomes.{IsAbstractOutcome}
 use Rattle.peg_semantics.specs.Rules.{Rule}
 use Rattle.peg_semantics.specs.WellFormed.{subexpressions, below, below_all}
-use Rattle.peg_lint.specs.Linting.{KeepsTrue, ArePartsOfRule, AllArePartsOfRule, IsOperatorOn, IsChoiceWith}
+use Rattle.peg_lint.specs.Linting.{AreAllPlaced, ArePartsOfRule, AllArePartsOfRule, IsOperatorOn, IsChoiceWith}
 use Rattle.peg_lint.specs.Outcomes.{AreOutcomes}
-use Rattle.peg_lint.specs.Warnings.{IsPartOfRule, IsTrueWarning}
-use Rattle.peg_lint.specs.declared.warning.Warning.{Warning}
+use Rattle.peg_lint.specs.Warnings.{IsAmong, IsItemOf, IsPartOfRule, IsPlaced}
 
 -- an expression is one of its subexpressions
 pub itself : (e : Form) (xs : List Form) → Contains (e ∷ xs) e
@@ -48,10 +48,12 @@ item-parts (y ∷ ys) (suc i) item within is x in_it =
     Contains-append_right (subexpressions (form_of y)) (below_all (forms (map form_of ys))) x
     (item-parts ys i item (omega (arith, within)) is x in_it)
 
--- a true warning after true warnings
-pub KeepsTrue-push : (rules : List Rule) (old : List Warning) (w : Warning)
-    → ((start : ℕ) → IsTrueWarning rules start w) → KeepsTrue rules old (old ++ w ∷ [])
-KeepsTrue-push rules old w is start are = All-push (IsTrueWarning rules start) old w are (is start)
+-- an item is one of the items
+pub item-among : (items : List Expr) (i : ℕ) (item : Expr) → i < length items → item ≡ get_or items i item
+    → IsAmong (forms (map form_of items)) (form_of item)
+item-among [] i item within is = absurd (omega (arith, within))
+item-among (y ∷ ys) zero item within is = inl (ap form_of (sym is))
+item-among (y ∷ ys) (suc i) item within is = inr (item-among ys i item (omega (arith, within)) is)
 
 -- one item more has its outcomes
 pub AreOutcomes-more : (rules : List Rule) (all now after : Forms) (e : Form) (can : Can) (cans : List Can)
@@ -86,11 +88,25 @@ form_of-Class set span =
 pub form_of-Any : (span : Span) → form_of (Any span) ≡ form.Any (extent span)
 form_of-Any span = ap form_of (sym (rolls-Any span)) ∙ fold-roll-Expr Form node_form (layer.Any span)
 
+-- a literal, a class, a dot or a name has no parts
+pub no-parts : (expr : Expr)
+    → ((bytes : Vec ℕ Global) × (span : Span) × (expr ≡ Literal bytes span))
+    ⊎ (((set : ByteSet) × (span : Span) × (expr ≡ Class set span))
+    ⊎ (((span : Span) × (expr ≡ Any span))
+    ⊎ ((name : String Global) × (span : Span) × (expr ≡ Name name span))))
+    → below (form_of expr) ≡ []
+no-parts expr (inl (bytes, span, is)) = ap below (ap form_of is ∙ form_of-Literal bytes span)
+no-parts expr (inr (inl (set, span, is))) = ap below (ap form_of is ∙ form_of-Class set span)
+no-parts expr (inr (inr (inl (span, is)))) = ap below (ap form_of is ∙ form_of-Any span)
+no-parts expr (inr (inr (inr (name, span, is)))) = ap below (ap form_of is ∙ form_of-Name name span)
+
 -- ---- operators
 
 -- an operator, and its part, whose parts are parts of the operator
 pub record IsOn (e part : Form) : Type 0 where
   pub on : IsOperatorOn e part
+  pub below_is : below e ≡ subexpressions part
+  pub names_are : names_used e ≡ names_used part
   pub parts : (x : Form) → Contains (subexpressions part) x → Contains (subexpressions e) x
 
 module _ (expr : Expr) (part : Box Expr Global) where
@@ -107,28 +123,28 @@ module _ (expr : Expr) (part : Box Expr Global) where
   is_on (inl (span, is)) =
       let p = form_of part.value in
       let e = form.Optional p (extent span) in
-      at e (ap form_of is ∙ form_of-Optional part span) (record { on = refl; parts = λ x. one_more e x (subexpressions p) })
+      at e (ap form_of is ∙ form_of-Optional part span) (record { on = refl; below_is = refl; names_are = refl; parts = λ x. one_more e x (subexpressions p) })
   is_on (inr (inl (span, is))) =
       let p = form_of part.value in
       let e = form.Star p (extent span) in
-      at e (ap form_of is ∙ form_of-Star part span) (record { on = refl; parts = λ x. one_more e x (subexpressions p) })
+      at e (ap form_of is ∙ form_of-Star part span) (record { on = refl; below_is = refl; names_are = refl; parts = λ x. one_more e x (subexpressions p) })
   is_on (inr (inr (inl (span, is)))) =
       let p = form_of part.value in
       let e = form.Plus p (extent span) in
-      at e (ap form_of is ∙ form_of-Plus part span) (record { on = refl; parts = λ x. one_more e x (subexpressions p) })
+      at e (ap form_of is ∙ form_of-Plus part span) (record { on = refl; below_is = refl; names_are = refl; parts = λ x. one_more e x (subexpressions p) })
   is_on (inr (inr (inr (inl (min, max, span, is))))) =
       let p = form_of part.value in
       let e = form.Counted p min max (extent span) in
       at e (ap form_of is ∙ form_of-Counted part min max span)
-      (record { on = refl; parts = λ x. one_more e x (subexpressions p) })
+      (record { on = refl; below_is = refl; names_are = refl; parts = λ x. one_more e x (subexpressions p) })
   is_on (inr (inr (inr (inr (inl (span, is)))))) =
       let p = form_of part.value in
       let e = form.And p (extent span) in
-      at e (ap form_of is ∙ form_of-And part span) (record { on = refl; parts = λ x. one_more e x (subexpressions p) })
+      at e (ap form_of is ∙ form_of-And part span) (record { on = refl; below_is = refl; names_are = refl; parts = λ x. one_more e x (subexpressions p) })
   is_on (inr (inr (inr (inr (inr (span, is)))))) =
       let p = form_of part.value in
       let e = form.Not p (extent span) in
-      at e (ap form_of is ∙ form_of-Not part span) (record { on = refl; parts = λ x. one_more e x (subexpressions p) })
+      at e (ap form_of is ∙ form_of-Not part span) (record { on = refl; below_is = refl; names_are = refl; parts = λ x. one_more e x (subexpressions p) })
 
 -- ---- sequences and choices
 
@@ -146,7 +162,25 @@ module _ (rules : List Rule) (number : ℕ) (e : Form) (parts : ArePartsOfRule r
       subst (λ (f : Form). Contains (subexpressions f) x) (sym same) (one_more seq x (below_all items) within) in
       parts x inside
 
+  pub items-placed : (items : Forms) (span : Extent) → e ≡ form.Seq items span → (now : Forms) → now ≡ items
+      → AreAllPlaced rules number now
+  items-placed items span same now here item among =
+      let inside : IsItemOf e item =
+      subst (λ (f : Form). IsItemOf f item) (sym same) (subst (λ (l : Forms). IsAmong l item) here among) in
+      inr (e, whole, inside)
+
   module _ (first : Form) (rest : Forms) (span : Extent) (same : e ≡ Choice first rest span) where
+    pub first-placed : (now : Form) → now ≡ first → IsPlaced rules number now
+    first-placed now here =
+        let inside : IsItemOf e now = subst (λ (f : Form). IsItemOf f now) (sym same) (inl (sym here)) in
+        inr (e, whole, inside)
+
+    pub rest-placed : (now : Forms) → now ≡ rest → AreAllPlaced rules number now
+    rest-placed now here item among =
+        let inside : IsItemOf e item =
+        subst (λ (f : Form). IsItemOf f item) (sym same) (inr (subst (λ (l : Forms). IsAmong l item) here among)) in
+        inr (e, whole, inside)
+
     pub first-is : (now : Form) → now ≡ first → ArePartsOfRule rules number now
     first-is now here x in_it =
         let choice = Choice first rest span in
@@ -192,3 +226,19 @@ body-parts rules number e is = by (slice_get rules number) refl is
     by (Some rule) at body x in_it =
         let same : rule.body ≡ e = cc in
         (rule, at, subst (λ (f : Form). Contains (subexpressions f) x) (sym same) in_it)
+
+-- the expression of a rule is that of the rule with its number
+pub body-is : (rules : List Rule) (number : ℕ) (rule : Rule) (e : Form)
+    → option_map (λ (r : Rule). r.body) (slice_get rules number) ≡ Some e → slice_get rules number ≡ Some rule
+    → rule.body ≡ e
+body-is rules number rule e is at =
+    let same : Some rule.body ≡ Some e = sym (ap (option_map (λ (r : Rule). r.body)) at) ∙ is in cc
+
+pub body-placed : (rules : List Rule) (number : ℕ) (e : Form)
+    → option_map (λ (r : Rule). r.body) (slice_get rules number) ≡ Some e → IsPlaced rules number e
+body-placed rules number e is = by (slice_get rules number) refl is
+  where
+    by : (found : Option Rule) → slice_get rules number ≡ found → option_map (λ (r : Rule). r.body) found ≡ Some e
+        → IsPlaced rules number e
+    by None at body = absurd cc
+    by (Some rule) at body = let same : rule.body ≡ e = cc in inl (rule, at, same)

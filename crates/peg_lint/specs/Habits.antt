@@ -1,11 +1,17 @@
 -- Habits of other notations, as tests of the texts of classes, ranges and literals, with their brackets and quotes.
-use Rattle.std.specs.Prelude.{ℕ, Bool, ◌==◌, ◌&&◌, ◌||◌, nat_eq, nat_le, List, length, codes, slice_range}
+use Rattle.std.specs.Prelude.{ℕ, ◌≤◌, Bool, true, false, IsFalse, ◌==◌, ◌&&◌, ◌||◌, not, nat_eq, nat_le}
+use Rattle.std.specs.Prelude.{List, [], ◌∷◌, length, codes, slice_range}
 use Rattle.std.specs.List.{ends_with, list_any, starts_with}
 use Rattle.peg_bytes.specs.Extent.{Extent}
 
 -- the text of a file in an extent
 abbrev pub text_in : (file : List ℕ) → Extent → List ℕ
 text_in file span = slice_range file span.start span.end
+
+-- an extent is within a file
+pub record IsWithin (file : List ℕ) (span : Extent) : Type 0 where
+  pub ordered : span.start ≤ span.end
+  pub ends : span.end ≤ length file
 
 -- one of the bytes is this one
 abbrev pub holds_byte : ℕ → List ℕ → Bool
@@ -31,3 +37,14 @@ holds_high_byte text = list_any (λ b. nat_le 128 b) text
 abbrev pub has_blanks_around : List ℕ → Bool
 has_blanks_around text =
     starts_with nat_eq text (codes "[ ") && (ends_with nat_eq text (codes " ]") && nat_le 5 (length text))
+
+-- a text has a closing parenthesis outside comments; the first argument says whether it begins in a comment
+abbrev pub has_closing : (commented : Bool) → List ℕ → Bool
+has_closing commented [] = false
+has_closing true (b ∷ text) = has_closing (not (b == 10) && not (b == 13)) text
+has_closing false (b ∷ text) = b == 41 || has_closing (b == 35) text
+
+-- From the end of an expression to the next rule there is no closing parenthesis outside comments: what ends there ends
+-- the rule.
+abbrev pub EndsRule : (file : List ℕ) → Extent → Type 0
+EndsRule file span = IsWithin file span × IsFalse (has_closing false (text_in file span))

@@ -13,7 +13,9 @@ pub use Rattle.peg_metagrammar.specs.Ranges
 pub use Rattle.peg_lexer.specs.Lexical
 pub use Rattle.peg_lexer.specs.Matchers
 pub use Rattle.peg_check.specs.Cans
+pub mod Excluded
 pub mod Never
+pub mod Reaches
 pub mod Outcomes
 pub mod Warnings
 pub mod Linting

@@ -1,16 +1,19 @@
 -- What a warning says of a grammar. Each kind is a theorem about Ford's recognition relation (Ford 2004, section 3.3),
 -- for every text and every position.
-use Rattle.std.specs.Prelude.{◌≡◌, ◌≢◌, ◌⊎◌, ℕ, ◌+◌, ◌<◌, ◌≤◌, List, All, Contains, Option, Some, length, slice_get}
-use Rattle.std.specs.Prelude.{slice_index_or, option_map}
+use Rattle.std.specs.Prelude.{◌≡◌, ◌≢◌, ◌⊎◌, ℕ, ◌+◌, ◌<◌, ◌≤◌, List, All, Contains, Option, None, Some, length}
+use Rattle.std.specs.Prelude.{slice_get, slice_index_or, option_map}
 use Rattle.std.specs.List.Sorted.{IsNonDecreasingBy}
 use Rattle.peg_bytes.specs.Extent.{Extent, extent}
 use Rattle.peg_semantics.specs.Form.{Form, Forms, Literal, Class, Any, Name, Seq, Choice, Optional, Star, Plus, Counted}
 use Rattle.peg_semantics.specs.Form.{And, Not, End, Then}
+use Rattle.peg_semantics.specs.AbstractOutcomes.{CanFail}
 use Rattle.peg_semantics.specs.Record.{Record, RuleCall, start_record}
 use Rattle.peg_semantics.specs.Rules.{Rule, name_of}
 use Rattle.peg_semantics.specs.WellFormed.{subexpressions}
+use Rattle.peg_lint.specs.Excluded.{CannotFail, CannotMatch}
 use Rattle.peg_lint.specs.Never.{NeverFails, NeverMatches, MatchesNothing, HasRecordsOf}
 use Rattle.peg_lint.specs.Never.{FailsWhere, HaveSameResults}
+use Rattle.peg_lint.specs.Reaches.{Reaches}
 use Rattle.peg_lint.specs.declared.warning.Warning.{Warning}
 use Rattle.peg_lint.specs.declared.warning.WarningKind.{WarningKind}
 use Rattle.peg_lint.specs.declared.warning.WarningKind.TheVariants as kind
@@ -98,6 +101,13 @@ abbrev pub IsNeverCalled : List Rule → (start number : ℕ) → Type 0
 IsNeverCalled rules start number = (text : List ℕ) (n : ℕ) (r : Record)
     → start_record rules text n (name_of rules start) ≡ Some r → All (λ (call : RuleCall). call.rule ≢ number) r.calls
 
+-- a rule that no path of names from the start leads to; the extent is that of its name, where it is defined
+pub record IsUnreached (rules : List Rule) (start number : ℕ) (span : Extent) : Type 0 where
+  pub rule : Rule
+  pub at : slice_get rules number ≡ Some rule
+  pub span_is : rule.span ≡ span
+  pub unreached : ¬ Reaches rules start number
+
 -- a rule that is never called; the extent is that of its name, where it is defined
 abbrev pub IsUnusedRule : List Rule → (start number : ℕ) → Extent → Type 0
 IsUnusedRule rules start number span =
@@ -147,14 +157,145 @@ IsNeverStopping rules number span by =
     × FollowsIn items repeat next × (extent_of next ≡ span) × (Some (extent_of repeat) ≡ by)
     × NeverMatches rules (Seq items whole)
 
--- what each kind of warning says of the rules; `SaysOfFile` has the kinds that say something of the file's bytes
+-- an expression is an item of a sequence, or an alternative of a choice
+abbrev pub IsItemOf : Form → (item : Form) → Type 0
+IsItemOf (Literal bytes span) item = ⊥
+IsItemOf (Class set span) item = ⊥
+IsItemOf (Any span) item = ⊥
+IsItemOf (Name name span) item = ⊥
+IsItemOf (Seq items span) item = IsAmong items item
+IsItemOf (Choice first rest span) item = IsAmong (Then first rest) item
+IsItemOf (Optional part span) item = ⊥
+IsItemOf (Star part span) item = ⊥
+IsItemOf (Plus part span) item = ⊥
+IsItemOf (Counted part min max span) item = ⊥
+IsItemOf (And part span) item = ⊥
+IsItemOf (Not part span) item = ⊥
+
+-- an expression is that of a rule, or an item or an alternative in it
+abbrev pub IsPlaced : List Rule → (number : ℕ) → Form → Type 0
+IsPlaced rules number e =
+    ((rule : Rule) × (slice_get rules number ≡ Some rule) × (rule.body ≡ e))
+    ⊎ ((whole : Form) × IsPartOfRule rules number whole × IsItemOf whole e)
+
+-- an expression is a class or a predicate
+abbrev pub IsClassOrPredicate : Form → Type 0
+IsClassOrPredicate (Literal bytes span) = ⊥
+IsClassOrPredicate (Class set span) = Unit {0}
+IsClassOrPredicate (Any span) = ⊥
+IsClassOrPredicate (Name name span) = ⊥
+IsClassOrPredicate (Seq items span) = ⊥
+IsClassOrPredicate (Choice first rest span) = ⊥
+IsClassOrPredicate (Optional part span) = ⊥
+IsClassOrPredicate (Star part span) = ⊥
+IsClassOrPredicate (Plus part span) = ⊥
+IsClassOrPredicate (Counted part min max span) = ⊥
+IsClassOrPredicate (And part span) = Unit {0}
+IsClassOrPredicate (Not part span) = Unit {0}
+
+-- The expression of a rule, an item or an alternative cannot match by Ford's outcomes. It is no class, which may fail
+-- on purpose, and no predicate, which has another kind of warning.
+pub record IsExcludedAt (rules : List Rule) (number : ℕ) (span : Extent) : Type 0 where
+  pub e : Form
+  pub placed : IsPlaced rules number e
+  pub span_is : extent_of e ≡ span
+  pub matter : ¬ IsClassOrPredicate e
+  pub excluded : CannotMatch rules e
+
+-- one of these cannot fail by Ford's outcomes, those before it can, and the other one comes after it
+abbrev pub IsUntried : List Rule → Forms → (earlier later : Form) → Type 0
+IsUntried rules End earlier later = ⊥
+IsUntried rules (Then e rest) earlier later =
+    ((e ≡ earlier) × CannotFail rules e × IsAmong rest later) ⊎ (CanFail rules e × IsUntried rules rest earlier later)
+
+-- the same of the alternatives of a choice
+abbrev pub IsUntriedIn : List Rule → Form → (earlier later : Form) → Type 0
+IsUntriedIn rules (Literal bytes span) earlier later = ⊥
+IsUntriedIn rules (Class set span) earlier later = ⊥
+IsUntriedIn rules (Any span) earlier later = ⊥
+IsUntriedIn rules (Name name span) earlier later = ⊥
+IsUntriedIn rules (Seq items span) earlier later = ⊥
+IsUntriedIn rules (Choice first rest span) earlier later = IsUntried rules (Then first rest) earlier later
+IsUntriedIn rules (Optional part span) earlier later = ⊥
+IsUntriedIn rules (Star part span) earlier later = ⊥
+IsUntriedIn rules (Plus part span) earlier later = ⊥
+IsUntriedIn rules (Counted part min max span) earlier later = ⊥
+IsUntriedIn rules (And part span) earlier later = ⊥
+IsUntriedIn rules (Not part span) earlier later = ⊥
+
+-- an alternative of a choice in a rule comes after the first one that cannot fail
+pub record IsUntriedAt (rules : List Rule) (number : ℕ) (span : Extent) (by : Option Extent) : Type 0 where
+  pub choice : Form
+  pub earlier : Form
+  pub later : Form
+  pub part : IsPartOfRule rules number choice
+  pub untried : IsUntriedIn rules choice earlier later
+  pub span_is : extent_of later ≡ span
+  pub by_is : Some (extent_of earlier) ≡ by
+
+-- a predicate fails by the outcomes of its part
+abbrev pub IsFailingPredicate : List Rule → Form → Type 0
+IsFailingPredicate rules (Literal bytes span) = ⊥
+IsFailingPredicate rules (Class set span) = ⊥
+IsFailingPredicate rules (Any span) = ⊥
+IsFailingPredicate rules (Name name span) = ⊥
+IsFailingPredicate rules (Seq items span) = ⊥
+IsFailingPredicate rules (Choice first rest span) = ⊥
+IsFailingPredicate rules (Optional part span) = ⊥
+IsFailingPredicate rules (Star part span) = ⊥
+IsFailingPredicate rules (Plus part span) = ⊥
+IsFailingPredicate rules (Counted part min max span) = ⊥
+IsFailingPredicate rules (And part span) = CannotMatch rules part
+IsFailingPredicate rules (Not part span) = CannotFail rules part
+
+-- An operator has no effect by the outcomes of its part. A predicate that fails by them has another kind of warning.
+abbrev pub IsWithoutUse : List Rule → Form → Type 0
+IsWithoutUse rules (Literal bytes span) = ⊥
+IsWithoutUse rules (Class set span) = ⊥
+IsWithoutUse rules (Any span) = ⊥
+IsWithoutUse rules (Name name span) = ⊥
+IsWithoutUse rules (Seq items span) = ⊥
+IsWithoutUse rules (Choice first rest span) = ⊥
+IsWithoutUse rules (Optional part span) = CannotMatch rules part ⊎ CannotFail rules part
+IsWithoutUse rules (Star part span) = CannotMatch rules part
+IsWithoutUse rules (Plus part span) = ⊥
+IsWithoutUse rules (Counted part min max span) = ⊥
+IsWithoutUse rules (And part span) = CannotFail rules part × ¬ CannotMatch rules part
+IsWithoutUse rules (Not part span) = CannotMatch rules part × ¬ CannotFail rules part
+
+-- What the kinds say that are decided by the names in expressions, or by Ford's outcomes. The others are no such kinds.
+abbrev pub Decides : WarningKind → List Rule → (start number : ℕ) → Extent → Option Extent → Type 0
+Decides kind.UnusedRule rules start number span by = IsUnreached rules start number span × (by ≡ None)
+Decides kind.NeverMatches rules start number span by = IsExcludedAt rules number span × (by ≡ None)
+Decides kind.NeverTried rules start number span by = IsUntriedAt rules number span by
+Decides kind.AlwaysFails rules start number span by = IsPartWith rules number span (IsFailingPredicate rules) × (by ≡ None)
+Decides kind.NoEffect rules start number span by = IsPartWith rules number span (IsWithoutUse rules) × (by ≡ None)
+Decides kind.SameAlternative rules start number span by = ⊥
+Decides kind.Shadowed rules start number span by = ⊥
+Decides kind.NeverStops rules start number span by = ⊥
+Decides kind.ReversedRange rules start number span by = ⊥
+Decides kind.EmptyAlternative rules start number span by = ⊥
+Decides kind.AnyAtEnd rules start number span by = ⊥
+Decides kind.ClassBeginsWithCaret rules start number span by = ⊥
+Decides kind.ClassEndsInRange rules start number span by = ⊥
+Decides kind.HoldsLineEnd rules start number span by = ⊥
+Decides kind.HighBytesInClass rules start number span by = ⊥
+Decides kind.BlanksInClass rules start number span by = ⊥
+
+-- What each kind of warning says of the rules, with what decides it. `SaysOfFile` has the kinds that say something of
+-- the file's bytes.
 abbrev pub Says : WarningKind → List Rule → (start number : ℕ) → Extent → Option Extent → Type 0
-Says kind.UnusedRule rules start number span by = IsUnusedRule rules start number span
-Says kind.NeverMatches rules start number span by = IsPartWith rules number span (NeverMatches rules)
-Says kind.NeverTried rules start number span by = IsNeverTried rules number span by
+Says kind.UnusedRule rules start number span by =
+    IsUnusedRule rules start number span × Decides kind.UnusedRule rules start number span by
+Says kind.NeverMatches rules start number span by =
+    IsPartWith rules number span (NeverMatches rules) × Decides kind.NeverMatches rules start number span by
+Says kind.NeverTried rules start number span by =
+    IsNeverTried rules number span by × Decides kind.NeverTried rules start number span by
 Says kind.AlwaysFails rules start number span by =
     IsPartWith rules number span (λ e. IsPredicate e × NeverMatches rules e)
-Says kind.NoEffect rules start number span by = IsPartWith rules number span (IsWithoutEffect rules)
+    × Decides kind.AlwaysFails rules start number span by
+Says kind.NoEffect rules start number span by =
+    IsPartWith rules number span (IsWithoutEffect rules) × Decides kind.NoEffect rules start number span by
 Says kind.SameAlternative rules start number span by = IsSameAlternative rules number span by
 Says kind.Shadowed rules start number span by = IsShadowed rules number span by
 Says kind.NeverStops rules start number span by = IsNeverStopping rules number span by
@@ -171,6 +312,21 @@ Says kind.BlanksInClass rules start number span by = ⊥
 abbrev pub IsTrueWarning : List Rule → (start : ℕ) → Warning → Type 0
 IsTrueWarning rules start warning =
     Says warning.kind rules start warning.rule (extent warning.span) (option_map extent warning.by)
+
+-- a list has a warning of a kind about a rule, with these extents
+pub record HasWarning (found : List Warning) (kind : WarningKind) (number : ℕ) (span : Extent) (by : Option Extent) :
+    Type 0 where
+  pub warning : Warning
+  pub among : Contains found warning
+  pub kind_is : warning.kind ≡ kind
+  pub rule_is : warning.rule ≡ number
+  pub span_is : extent warning.span ≡ span
+  pub by_is : option_map extent warning.by ≡ by
+
+-- A list has each warning of a kind that is decided so. By `Says` it has no other warning of these kinds.
+abbrev pub FindsDecided : List Rule → (start : ℕ) → List Warning → Type 0
+FindsDecided rules start found = (what : WarningKind) (number : ℕ) (span : Extent) (by : Option Extent)
+    → Decides what rules start number span by → HasWarning found what number span by
 
 -- the place of a kind among all kinds
 abbrev pub rank_of : WarningKind → ℕ

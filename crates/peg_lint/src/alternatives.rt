@@ -1,34 +1,34 @@
 //! Alternatives that are never tried.
-ghost use Rattle.std.specs.Prelude.{◌≡◌, List, length, map, IfSome, OnOk};
-ghost use Rattle.peg_bytes.specs.Extent.{Extent, extent};
+ghost use Rattle.std.specs.Prelude.{◌≡◌, ◌∷◌, List, length, map, IfNone, IfSome, OnOk};
+ghost use Rattle.peg_bytes.specs.Extent.{Extent};
 ghost use Rattle.peg_check.specs.Cans.{can_of};
 ghost use Rattle.peg_grammar.specs.Written.{form_of};
-ghost use Rattle.peg_semantics.specs.Form.{forms};
-ghost use Rattle.peg_semantics.specs.RuleOutcomes.{IsAbstractOutcome};
+ghost use Rattle.peg_semantics.specs.Form.{Choice, forms};
 ghost use Rattle.peg_semantics.specs.Rules.{Rule};
-ghost use Rattle.peg_lint.specs.Linting.{IsChoiceWith, KeepsTrue};
-ghost use Rattle.peg_lint.specs.Never.{NeverFails};
-ghost use Rattle.peg_lint.specs.Warnings.{extent_of};
+ghost use Rattle.peg_lint.specs.Linting.{Adds, AllFail, AreFirstCertain, FindsUntried, IsChoiceWith};
 
 use crate::expressions::span_of;
-use crate::never::never_fails;
+use crate::never::excluded_outcomes_never_happen;
+use crate::repeats::alternative_at;
 use crate::{Warning, WarningKind};
-use peg_bytes::Span;
 use peg_check::Can;
 use peg_grammar::Expr;
 use std::alloc::AllocError;
 
-// Returns the span of an expression with these outcomes, if it never fails.
-fn span_if_certain(expr: &Expr, can: Can) -> Option<Span>
-    ensures at { IfSome result (λ span. extent_of (form_of expr.now) ≡ extent span) }
-    ensures certain { IfSome result (λ span. (rules : List Rule)
-        → IsAbstractOutcome rules (form_of expr.now) (can_of can) → NeverFails rules (form_of expr.now)) }
+// Returns the number of the first alternative that never fails by these outcomes.
+fn first_certain(can: Can, cans: &[Can]) -> Option<usize>
+    ensures some { IfSome result (λ number. AreFirstCertain (can_of can ∷ map can_of cans.now) number) }
+    ensures none { IfNone result (AllFail (can_of can ∷ map can_of cans.now)) }
 {
-    if never_fails(can) {
-        Some(span_of(expr))
-    } else {
-        None
+    if !can.fails {
+        return Some(0);
     }
+    'alternatives: for index in 0..cans.len() {
+        if !cans[index].fails {
+            return Some(index + 1);
+        }
+    }
+    None
 }
 
 /// Adds a warning for each alternative of a choice after the first that never fails. The outcomes are those of the
@@ -46,19 +46,21 @@ pub(crate) fn add_never_tried(
     ensures { OnOk result ((rules : List Rule) (span : Extent)
         → IsChoiceWith rules rule (form_of first.now) (forms (map form_of rest.now)) span (can_of can)
         (map can_of cans.now)
-        → KeepsTrue rules found.old.items found.new.items) }
+        → Adds rules (FindsUntried rules rule (Choice (form_of first.now) (forms (map form_of rest.now)) span))
+        found.old.items found.new.items) }
 {
-    let mut certain = span_if_certain(first, can);
-    'alternatives: for index in 0..rest.len() {
-        match certain {
-            None => certain = span_if_certain(&rest[index], cans[index]),
-            Some(by) => found.push(Warning {
-                kind: WarningKind::NeverTried,
-                rule,
-                span: span_of(&rest[index]),
-                by: Some(by),
-            })?,
-        }
+    excluded_outcomes_never_happen();
+    let Some(number) = first_certain(can, cans) else {
+        return Ok(());
+    };
+    let by = span_of(alternative_at(first, rest, number));
+    'alternatives: for index in number..rest.len() {
+        found.push(Warning {
+            kind: WarningKind::NeverTried,
+            rule,
+            span: span_of(&rest[index]),
+            by: Some(by),
+        })?;
     }
     Ok(())
 }

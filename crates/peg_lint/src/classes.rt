@@ -1,13 +1,14 @@
 //! Warnings about the texts of classes and literals.
-ghost use Rattle.std.specs.Prelude.{◌≡◌, ◌<◌, ◌≤◌, ◌+◌, ℕ, IsTrue, List, IfSome, OnOk};
+ghost use Rattle.std.specs.Prelude.{◌≡◌, ◌<◌, ◌≤◌, ◌+◌, ℕ, IsTrue, List, length, IfNone, IfSome, OnOk};
 ghost use Rattle.peg_bytes.specs.ByteSet.{Bytes};
 ghost use Rattle.peg_bytes.specs.Extent.{extent};
+ghost use Rattle.peg_metagrammar.specs.Ranges.{Range};
 ghost use Rattle.peg_metagrammar.specs.RangesCode.{range_of};
 ghost use Rattle.peg_semantics.specs.Form.{Class, Literal};
 ghost use Rattle.peg_semantics.specs.Rules.{Rule};
 ghost use Rattle.peg_lint.specs.FileWarnings.{SaysOfFile};
-ghost use Rattle.peg_lint.specs.Habits.{ends_in_bracket, text_in};
-ghost use Rattle.peg_lint.specs.Linting.{KeepsTrueIn};
+ghost use Rattle.peg_lint.specs.Habits.{IsWithin, ends_in_bracket, text_in};
+ghost use Rattle.peg_lint.specs.Linting.{AddsIn, FindsClass, FindsIf, FindsLineEnd, FindsRanges, FindsWhole};
 ghost use Rattle.peg_lint.specs.Spelling.{IsRangeAt};
 ghost use Rattle.peg_lint.specs.Warnings.{IsPartOfRule};
 
@@ -32,6 +33,8 @@ fn range_within(file: &[u8], at: u32, end: u32) -> Option<Placed>
     ensures read { IfSome result (λ range. IsRangeAt file.now at range.length (range_of range.bytes)) }
     ensures some { IfSome result (λ range. 0 < range.length) }
     ensures within { IfSome result (λ range. at + range.length ≤ end) }
+    ensures last { IfNone result (at ≤ length file.now
+        → (long : ℕ) (bytes : Range) → IsRangeAt file.now at long bytes → end < at + long) }
 {
     let rest = file.get(at as usize..)?;
     let found = classed_range(rest)?;
@@ -46,7 +49,7 @@ fn range_within(file: &[u8], at: u32, end: u32) -> Option<Placed>
 
 // Returns whether the text of a range in a span of the file ends in a bracket without a backslash.
 fn is_to_bracket(file: &[u8], span: Span) -> bool
-    ensures { IsTrue result → IsTrue (ends_in_bracket (text_in file.now (extent span))) }
+    ensures { IsWithin file.now (extent span) → result ≡ ends_in_bracket (text_in file.now (extent span)) }
 {
     match text_in(file, span) {
         Some(text) => ends_in_bracket(text),
@@ -64,7 +67,7 @@ fn add_if(
 ) -> Result<(), AllocError>
     ensures { OnOk result ((file : List ℕ) (rules : List Rule)
         → (IsTrue holds → SaysOfFile kind file rules rule (extent span))
-        → KeepsTrueIn file rules found.old.items found.new.items) }
+        → AddsIn file rules (FindsIf holds kind rule (extent span)) found.old.items found.new.items) }
 {
     if holds {
         found.push(Warning {
@@ -85,7 +88,8 @@ fn add_of_ranges(
     found: &mut Vec<Warning>,
 ) -> Result<(), AllocError>
     ensures { OnOk result ((rules : List Rule) (set : Bytes) → IsPartOfRule rules rule (Class set (extent class))
-        → KeepsTrueIn file.now rules found.old.items found.new.items) }
+        → IsWithin file.now (extent class)
+        → AddsIn file.now rules (FindsRanges file.now rule (extent class)) found.old.items found.new.items) }
 {
     if class.end <= class.start {
         return Ok(());
@@ -110,8 +114,9 @@ fn add_of_whole(
     found: &mut Vec<Warning>,
 ) -> Result<(), AllocError>
     ensures { OnOk result ((file : List ℕ) (rules : List Rule) (set : Bytes)
-        → IsPartOfRule rules rule (Class set (extent span)) → text.now ≡ text_in file (extent span)
-        → KeepsTrueIn file rules found.old.items found.new.items) }
+        → IsPartOfRule rules rule (Class set (extent span)) → IsWithin file (extent span)
+        → text.now ≡ text_in file (extent span)
+        → AddsIn file rules (FindsWhole text.now rule (extent span)) found.old.items found.new.items) }
 {
     let (caret, high) = (
         WarningKind::ClassBeginsWithCaret,
@@ -143,7 +148,7 @@ pub(crate) fn add_of_class(
     found: &mut Vec<Warning>,
 ) -> Result<(), AllocError>
     ensures { OnOk result ((rules : List Rule) (set : Bytes) → IsPartOfRule rules rule (Class set (extent span))
-        → KeepsTrueIn file.now rules found.old.items found.new.items) }
+        → AddsIn file.now rules (FindsClass file.now rule (extent span)) found.old.items found.new.items) }
 {
     let Some(text) = text_in(file, span) else {
         return Ok(());
@@ -160,7 +165,7 @@ pub(crate) fn add_of_literal(
     found: &mut Vec<Warning>,
 ) -> Result<(), AllocError>
     ensures { OnOk result ((rules : List Rule) (bytes : List ℕ) → IsPartOfRule rules rule (Literal bytes (extent span))
-        → KeepsTrueIn file.now rules found.old.items found.new.items) }
+        → AddsIn file.now rules (FindsLineEnd file.now rule (extent span)) found.old.items found.new.items) }
 {
     let Some(text) = text_in(file, span) else {
         return Ok(());

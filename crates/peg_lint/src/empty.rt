@@ -1,10 +1,10 @@
 //! Empty alternatives.
-ghost use Rattle.std.specs.Prelude.{◌≡◌, ℕ, List, map, IfSome, OnOk};
+ghost use Rattle.std.specs.Prelude.{◌≡◌, ◌≢◌, ℕ, List, map, IfNone, IfSome, OnOk};
 ghost use Rattle.peg_bytes.specs.Extent.{Extent, extent};
 ghost use Rattle.peg_grammar.specs.Written.{form_of};
 ghost use Rattle.peg_semantics.specs.Form.{Choice, End, Seq, forms};
 ghost use Rattle.peg_semantics.specs.Rules.{Rule};
-ghost use Rattle.peg_lint.specs.Linting.{KeepsTrueIn};
+ghost use Rattle.peg_lint.specs.Linting.{AddsIn, FindsEmpty};
 ghost use Rattle.peg_lint.specs.Warnings.{IsPartOfRule};
 
 use crate::repeats::alternative_at;
@@ -15,11 +15,22 @@ use std::alloc::AllocError;
 
 // Returns the span of a sequence without items.
 fn empty_span(expr: &Expr) -> Option<Span>
-    ensures { IfSome result (λ span. form_of expr.now ≡ Seq End (extent span)) }
+    ensures some { IfSome result (λ span. form_of expr.now ≡ Seq End (extent span)) }
+    ensures none { IfNone result ((span : Extent) → form_of expr.now ≢ Seq End span) }
 {
     match expr {
-        Expr::Seq { items, span } if items.is_empty() => Some(*span),
-        _ => None,
+        Expr::Seq { items, span } => { if items.is_empty() { Some(*span) } else { None } }
+        Expr::Literal { .. }
+        | Expr::Class { .. }
+        | Expr::Any { .. }
+        | Expr::Name { .. }
+        | Expr::Choice { .. }
+        | Expr::Optional { .. }
+        | Expr::Star { .. }
+        | Expr::Plus { .. }
+        | Expr::Counted { .. }
+        | Expr::And { .. }
+        | Expr::Not { .. } => None,
     }
 }
 
@@ -33,7 +44,8 @@ pub(crate) fn add_empty_alternatives(
 ) -> Result<(), AllocError>
     ensures { OnOk result ((file : List ℕ) (rules : List Rule) (span : Extent)
         → IsPartOfRule rules rule (Choice (form_of first.now) (forms (map form_of rest.now)) span)
-        → KeepsTrueIn file rules found.old.items found.new.items) }
+        → AddsIn file rules (FindsEmpty rule (Choice (form_of first.now) (forms (map form_of rest.now)) span))
+        found.old.items found.new.items) }
 {
     'alternatives: for index in 0..rest.len() {
         let earlier = alternative_at(first, rest, index);

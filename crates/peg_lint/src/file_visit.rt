@@ -3,7 +3,8 @@ ghost use Rattle.std.specs.Prelude.{List, map, OnOk};
 ghost use Rattle.peg_grammar.specs.Written.{form_of};
 ghost use Rattle.peg_semantics.specs.Form.{forms};
 ghost use Rattle.peg_semantics.specs.Rules.{Rule};
-ghost use Rattle.peg_lint.specs.Linting.{AllArePartsOfRule, ArePartsOfRule, KeepsTrueIn};
+ghost use Rattle.peg_semantics.specs.WellFormed.{below_all, subexpressions};
+ghost use Rattle.peg_lint.specs.Linting.{AddsIn, AllArePartsOfRule, ArePartsOfRule, FindsText, FindsTexts};
 ghost use Rattle.peg_lint.specs.Warnings.{IsPartOfRule};
 
 use crate::Warning;
@@ -21,13 +22,22 @@ fn add_of_text(
     found: &mut Vec<Warning>,
 ) -> Result<(), AllocError>
     ensures { OnOk result ((rules : List Rule) → IsPartOfRule rules rule (form_of expr.now)
-        → KeepsTrueIn file.now rules found.old.items found.new.items) }
+        → AddsIn file.now rules (λ now. FindsText file.now rule now (form_of expr.now))
+        found.old.items found.new.items) }
 {
     match expr {
         Expr::Class { span, .. } => add_of_class(file, rule, *span, found),
         Expr::Literal { span, .. } => add_of_literal(file, rule, *span, found),
         Expr::Choice { first, rest, .. } => add_empty_alternatives(rule, first, rest, found),
-        _ => Ok(()),
+        Expr::Any { .. }
+        | Expr::Name { .. }
+        | Expr::Seq { .. }
+        | Expr::Optional { .. }
+        | Expr::Star { .. }
+        | Expr::Plus { .. }
+        | Expr::Counted { .. }
+        | Expr::And { .. }
+        | Expr::Not { .. } => Ok(()),
     }
 }
 
@@ -41,7 +51,8 @@ pub(crate) fn lint_text(
     found: &mut Vec<Warning>,
 ) -> Result<(), AllocError>
     ensures { OnOk result ((rules : List Rule) → ArePartsOfRule rules rule (form_of expr.now)
-        → KeepsTrueIn file.now rules found.old.items found.new.items) }
+        → AddsIn file.now rules (FindsTexts file.now rule (subexpressions (form_of expr.now)))
+        found.old.items found.new.items) }
 {
     add_of_text(file, rule, expr, found)?;
     match expr {
@@ -69,7 +80,8 @@ fn lint_texts(
     found: &mut Vec<Warning>,
 ) -> Result<(), AllocError>
     ensures { OnOk result ((rules : List Rule) → AllArePartsOfRule rules rule (forms (map form_of items.now))
-        → KeepsTrueIn file.now rules found.old.items found.new.items) }
+        → AddsIn file.now rules (FindsTexts file.now rule (below_all (forms (map form_of items.now))))
+        found.old.items found.new.items) }
 {
     for item in items {
         lint_text(file, rule, item, found)?;

@@ -1,14 +1,16 @@
 //! Habits of other notations in the texts of classes, ranges and literals.
-ghost use Rattle.std.specs.Prelude.{◌≡◌, IfSome};
+ghost use Rattle.std.specs.Prelude.{◌≡◌, false, IfNone, IfSome};
 ghost use Rattle.peg_bytes.specs.Extent.{extent};
 ghost use Rattle.peg_lint.specs.Habits.{begins_with_caret, ends_in_bracket, has_blanks_around, holds_high_byte};
-ghost use Rattle.peg_lint.specs.Habits.{holds_line_end, text_in};
+ghost use Rattle.peg_lint.specs.Habits.{IsWithin, has_closing, holds_line_end, text_in};
 
 use peg_bytes::Span;
 
 /// Returns the text of a file in a span, if the file is long enough.
 pub(crate) fn text_in(file: &[u8], span: Span) -> Option<&[u8]>
-    ensures { IfSome result (λ text. text.now ≡ text_in file.now (extent span)) }
+    ensures text { IfSome result (λ text. text.now ≡ text_in file.now (extent span)) }
+    ensures within { IfSome result (λ text. IsWithin file.now (extent span)) }
+    ensures outside { IfNone result (¬ IsWithin file.now (extent span)) }
 {
     file.get(span.start as usize..span.end as usize)
 }
@@ -46,4 +48,21 @@ pub(crate) fn has_blanks_around(text: &[u8]) -> bool
     ensures { result ≡ has_blanks_around text.now }
 {
     text.starts_with(b"[ ") && text.ends_with(b" ]") && text.len() >= 5
+}
+
+/// Returns whether a text has a closing parenthesis outside comments.
+pub(crate) fn has_closing(text: &[u8]) -> bool
+    ensures { result ≡ has_closing false text.now }
+{
+    let mut is_comment = false;
+    'bytes: for byte in text {
+        if is_comment {
+            is_comment = *byte != b'\n' && *byte != b'\r';
+        } else if *byte == b')' {
+            return true;
+        } else {
+            is_comment = *byte == b'#';
+        }
+    }
+    false
 }

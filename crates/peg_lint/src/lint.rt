@@ -5,8 +5,8 @@ ghost use Rattle.peg_check.specs.Exact.{cans_of};
 ghost use Rattle.peg_core.specs.CoreParts.{AreCoreFormsOf};
 ghost use Rattle.peg_grammar.specs.GrammarRules.{rules_in};
 ghost use Rattle.peg_semantics.specs.RuleOutcomes.{AreAbstractOutcomes};
-ghost use Rattle.peg_lint.specs.Linting.{KeepsTrue};
-ghost use Rattle.peg_lint.specs.Warnings.{IsInWrittenOrder, IsTrueWarning};
+ghost use Rattle.peg_lint.specs.Linting.{Adds, FindsRule, FindsRules, FindsUnused, Keeps};
+ghost use Rattle.peg_lint.specs.Warnings.{FindsDecided, IsInWrittenOrder, IsTrueWarning};
 
 use crate::findings::add_never_matches;
 use crate::order::sort;
@@ -22,6 +22,9 @@ use std::alloc::{AllocError, Global};
 /// grammar. Each warning is true of Ford's recognition relation on the grammar as written, for every text and every
 /// position (Ford 2004, section 3.3). In a grammar that is not well-formed an expression may have no record; then a
 /// warning about it says nothing.
+///
+/// No warning is missing of the kinds that Ford's abstract outcomes or the names in expressions decide: `UnusedRule`,
+/// `NeverMatches`, `NeverTried`, `AlwaysFails` and `NoEffect`.
 ///
 /// The warnings are sorted by the start of their spans, and those with the same start by kind.
 ///
@@ -45,14 +48,13 @@ pub fn warnings(
     requires core { AreCoreFormsOf (rules_in grammar.now) core.now }
     requires start { start < length (rules_in grammar.now) }
     ensures true_warnings { IfOk result (λ found. All (IsTrueWarning (rules_in grammar.now) start) found.items) }
+    ensures decided { IfOk result (λ found. FindsDecided (rules_in grammar.now) start found.items) }
     ensures in_order { IfOk result (λ found. IsInWrittenOrder found.items) }
 {
     let table = table_of(alloc, core)?;
     let outcomes = rule_outcomes(alloc, core, &table)?;
     let mut found = Vec::new(alloc);
-    'rules: for rule in 0..grammar.rules() {
-        lint_rule(alloc, grammar, &outcomes, rule, &mut found)?;
-    }
+    lint_rules(alloc, grammar, &outcomes, &mut found)?;
     add_unused_rules(alloc, grammar, start, &mut found)?;
     sort(&mut found)?;
     Ok(found)
@@ -80,11 +82,29 @@ fn lint_rule(
 ) -> Result<(), AllocError>
     requires outcomes { AreAbstractOutcomes (rules_in grammar.now) (map can_of outcomes.now) }
     requires within { rule < length (rules_in grammar.now) }
-    ensures { OnOk result (KeepsTrue (rules_in grammar.now) found.old.items found.new.items) }
+    ensures { OnOk result (Adds (rules_in grammar.now) (FindsRule (rules_in grammar.now) rule)
+        found.old.items found.new.items) }
 {
     let body = grammar.body(rule);
     let can = lint_expression(alloc, grammar, outcomes, rule, body, found)?;
     add_never_matches(rule, body, can, found)
+}
+
+// Adds the warnings about the expressions of all rules.
+fn lint_rules(
+    alloc: Global,
+    grammar: &Grammar,
+    outcomes: &[Can],
+    found: &mut Vec<Warning>,
+) -> Result<(), AllocError>
+    requires outcomes { AreAbstractOutcomes (rules_in grammar.now) (map can_of outcomes.now) }
+    ensures { OnOk result (Adds (rules_in grammar.now) (FindsRules (rules_in grammar.now))
+        found.old.items found.new.items) }
+{
+    'rules: for rule in 0..grammar.rules() {
+        lint_rule(alloc, grammar, outcomes, rule, found)?;
+    }
+    Ok(())
 }
 
 // Adds a warning for each rule that the start rule does not reach.
@@ -96,7 +116,9 @@ fn add_unused_rules(
 ) -> Result<(), AllocError>
     requires start { start < length (rules_in grammar.now) }
     requires sound { All (IsTrueWarning (rules_in grammar.now) start) found.old.items }
-    ensures { OnOk result (All (IsTrueWarning (rules_in grammar.now) start) found.new.items) }
+    ensures true_warnings { OnOk result (All (IsTrueWarning (rules_in grammar.now) start) found.new.items) }
+    ensures kept { OnOk result (Keeps found.old.items found.new.items) }
+    ensures unused { OnOk result (FindsUnused (rules_in grammar.now) start found.new.items) }
 {
     let marks = reached_from(alloc, grammar, start)?;
     'rules: for rule in 0..grammar.rules() {

@@ -4,7 +4,7 @@ ghost use Rattle.peg_grammar.specs.GrammarRules.{rules_in};
 ghost use Rattle.peg_grammar.specs.Written.{form_of};
 ghost use Rattle.peg_semantics.specs.Form.{forms, names_used, names_used_by_all};
 ghost use Rattle.peg_semantics.specs.Rules.{name_of};
-ghost use Rattle.peg_lint.specs.Reaching.{AreClosed, AreNamesMarked, IsMarked, IsNameMarked, ReachesMore};
+ghost use Rattle.peg_lint.specs.Reaching.{AreClosed, AreNamesMarked, AreReached, IsMarked, IsNameMarked, ReachesMore};
 
 use peg_grammar::{Expr, Grammar};
 use std::alloc::{AllocError, Global};
@@ -17,16 +17,19 @@ struct Reach {
 }
 
 impl Reach {
-    ghost use Rattle.std.specs.Prelude.{◌≡◌, ◌<◌, length, map, OnOk};
+    ghost use Rattle.std.specs.Prelude.{◌≡◌, ◌⊎◌, ◌<◌, ℕ, length, map, OnOk};
     ghost use Rattle.peg_grammar.specs.GrammarRules.{rules_in};
     ghost use Rattle.peg_grammar.specs.Written.{form_of};
     ghost use Rattle.peg_semantics.specs.Form.{forms, names_used, names_used_by_all};
-    ghost use Rattle.peg_lint.specs.Reaching.{AreNamesMarked, IsMarked, IsNameMarked, ReachesMore};
+    ghost use Rattle.peg_lint.specs.Reaches.{RefersTo};
+    ghost use Rattle.peg_lint.specs.Reaching.{AreNamesMarked, IsMarked, IsNameMarked, MarksOnly, ReachesMore};
 
     // Marks a rule, which is pending from then on, unless it is marked already.
     fn add(&mut self, number: u32) -> Result<(), AllocError>
         requires { number < length self.old.marks.items }
         ensures marked { OnOk result (IsMarked self.new.marks.items number) }
+        ensures only { OnOk result ((other : ℕ) → IsMarked self.new.marks.items other
+            → IsMarked self.old.marks.items other ⊎ (other ≡ number)) }
         ensures more { OnOk result (ReachesMore self.old self.new) }
     {
         if self.marks[number as usize] {
@@ -41,6 +44,8 @@ impl Reach {
     fn add_name(&mut self, grammar: &Grammar, name: &str) -> Result<(), AllocError>
         requires { length self.old.marks.items ≡ length (rules_in grammar.now) }
         ensures marked { OnOk result (IsNameMarked (rules_in grammar.now) self.new.marks.items name.now) }
+        ensures only { OnOk result ((other : ℕ) → IsMarked self.new.marks.items other
+            → IsMarked self.old.marks.items other ⊎ RefersTo (rules_in grammar.now) name.now other) }
         ensures more { OnOk result (ReachesMore self.old self.new) }
     {
         match grammar.rule_number(name) {
@@ -55,6 +60,8 @@ impl Reach {
         requires { length self.old.marks.items ≡ length (rules_in grammar.now) }
         ensures marked { OnOk result
             (AreNamesMarked (rules_in grammar.now) self.new.marks.items (names_used (form_of expr.now))) }
+        ensures only { OnOk result (MarksOnly (rules_in grammar.now) (names_used (form_of expr.now))
+            self.old.marks.items self.new.marks.items) }
         ensures more { OnOk result (ReachesMore self.old self.new) }
     {
         match expr {
@@ -80,6 +87,8 @@ impl Reach {
         requires { length self.old.marks.items ≡ length (rules_in grammar.now) }
         ensures marked { OnOk result (AreNamesMarked (rules_in grammar.now) self.new.marks.items
             (names_used_by_all (forms (map form_of items.now)))) }
+        ensures only { OnOk result (MarksOnly (rules_in grammar.now) (names_used_by_all (forms (map form_of items.now)))
+            self.old.marks.items self.new.marks.items) }
         ensures more { OnOk result (ReachesMore self.old self.new) }
     {
         for item in items {
@@ -101,6 +110,7 @@ pub(crate) fn reached_from(
     ensures start { IfOk result (λ marks.
         IsNameMarked (rules_in grammar.now) marks.items (name_of (rules_in grammar.now) start)) }
     ensures closed { IfOk result (λ marks. AreClosed (rules_in grammar.now) marks.items) }
+    ensures reached { IfOk result (λ marks. AreReached (rules_in grammar.now) start marks.items) }
 {
     let mut reach = Reach {
         marks: vec![in alloc; false; grammar.rules() as usize]?,

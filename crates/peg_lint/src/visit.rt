@@ -5,7 +5,8 @@ ghost use Rattle.peg_grammar.specs.GrammarRules.{rules_in};
 ghost use Rattle.peg_grammar.specs.Written.{form_of};
 ghost use Rattle.peg_semantics.specs.Form.{forms};
 ghost use Rattle.peg_semantics.specs.RuleOutcomes.{AreAbstractOutcomes, IsAbstractOutcome};
-ghost use Rattle.peg_lint.specs.Linting.{AllArePartsOfRule, ArePartsOfRule, KeepsTrue};
+ghost use Rattle.peg_semantics.specs.WellFormed.{subexpressions};
+ghost use Rattle.peg_lint.specs.Linting.{Adds, AllArePartsOfRule, AreAllPlaced, ArePartsOfRule, FindsBelow, FindsOfAll};
 ghost use Rattle.peg_lint.specs.Outcomes.{AreOutcomes};
 
 use crate::Warning;
@@ -36,7 +37,8 @@ pub(crate) fn lint_expression(
     requires parts { ArePartsOfRule (rules_in grammar.now) rule (form_of expr.now) }
     ensures outcome { IfOk result (λ can.
         IsAbstractOutcome (rules_in grammar.now) (form_of expr.now) (can_of can)) }
-    ensures true_warnings { OnOk result (KeepsTrue (rules_in grammar.now) found.old.items found.new.items) }
+    ensures adds { OnOk result (Adds (rules_in grammar.now)
+        (FindsOfAll (rules_in grammar.now) rule (subexpressions (form_of expr.now))) found.old.items found.new.items) }
 {
     match expr {
         Expr::Literal { bytes, .. } => Ok(literal_outcome(bytes)),
@@ -82,10 +84,12 @@ fn lint_all(
 ) -> Result<Vec<Can>, AllocError>
     requires outcomes { AreAbstractOutcomes (rules_in grammar.now) (map can_of outcomes.now) }
     requires parts { AllArePartsOfRule (rules_in grammar.now) rule (forms (map form_of items.now)) }
+    requires placed { AreAllPlaced (rules_in grammar.now) rule (forms (map form_of items.now)) }
     ensures outcomes { IfOk result (λ cans.
         AreOutcomes (rules_in grammar.now) (forms (map form_of items.now)) (map can_of cans.items)) }
     ensures count { IfOk result (λ cans. length cans.items ≡ length items.now) }
-    ensures true_warnings { OnOk result (KeepsTrue (rules_in grammar.now) found.old.items found.new.items) }
+    ensures adds { OnOk result (Adds (rules_in grammar.now)
+        (FindsBelow (rules_in grammar.now) rule (forms (map form_of items.now))) found.old.items found.new.items) }
 {
     let mut cans = Vec::new(alloc);
     for item in items {

@@ -50,3 +50,18 @@ A dot after a predicate or another dot is common, so it has no warning.
   {"warnings":[]}
   $ printf "S <- T . .\nT <- 't'" | pegtool lint /dev/stdin
   {"warnings":[]}
+
+Before a closing parenthesis the dot isn't at the end of the rule: more than spacing comes before the next name.
+
+  $ printf "S <- (T .)\nT <- 'b'" | pegtool lint /dev/stdin
+  {"warnings":[]}
+  $ printf "S <- 'a' / (T .) # c\nT <- 'b'" | pegtool lint /dev/stdin
+  {"warnings":[]}
+  $ printf "S <- (T . # c\n)\nT <- 'b'" | pegtool lint /dev/stdin
+  {"warnings":[]}
+
+A parenthesis in a comment closes nothing, so the dot is still at the end of the rule.
+
+  $ printf "S <- T . # c)\nT <- 'b'" | pegtool lint /dev/stdin
+  {"warnings":[{"column":8,"end":8,"kind":"AnyAtEnd","line":1,"proved":false,"rule":"S","start":7}]}
+  [1]

@@ -1,18 +1,14 @@
-use Rattle.std.proofs.Common.{List, map, drop, IfSome}
+use Rattle.std.proofs.Common.{List, map}
 use Rattle.peg_bytes.specs.Extent.{Extent, extent}
 use Rattle.peg_check.specs.Cans.{can_of}
 use Rattle.peg_grammar.specs.Written.{form_of}
 use Rattle.peg_semantics.specs.Form.{forms}
 use Rattle.peg_semantics.specs.Rules.{Rule}
-use Rattle.peg_lint.specs.Linting.{IsBefore, IsChoiceWith, KeepsTrue}
+use Rattle.peg_lint.specs.Linting.{Adds, FindsUntriedFrom, IsChoiceWith}
 use Rattle.peg_lint.proofs.alternatives.add_never_tried.Given as goal
 
--- an alternative that never fails, if there is one so far, comes before the remaining ones
 abbrev pub invariant-alternatives : goal.invariant-alternatives
 invariant-alternatives l = (rules : List Rule) (span : Extent)
     → IsChoiceWith rules l.rule (form_of l.first) (forms (map form_of l.rest)) span (can_of l.fn.can) (map can_of l.cans)
-    → record {
-      certain : IfSome l.certain (λ by. IsBefore rules (form_of l.first) (forms (map form_of l.rest))
-          (forms (drop l.index (map form_of l.rest))) (extent by));
-      kept : KeepsTrue rules l.fn.found.items l.found.items;
-    }
+    → Adds rules (FindsUntriedFrom l.rule (map form_of l.rest) l.number l.index (extent l.by)) l.fn.found.items
+    l.found.items

@@ -1,18 +1,22 @@
-use Rattle.std.proofs.Common.{List, ◌+◌, ◌-◌}
+use Rattle.std.proofs.Common.{List, ◌+◌, ◌-◌, ◌≤◌}
 use Rattle.peg_bytes.specs.ByteSet.{Bytes}
 use Rattle.peg_bytes.specs.Extent.{extent}
 use Rattle.peg_semantics.specs.Form.{Class}
 use Rattle.peg_semantics.specs.Rules.{Rule}
-use Rattle.peg_lint.specs.Linting.{KeepsTrueIn}
+use Rattle.peg_lint.specs.Habits.{IsWithin}
+use Rattle.peg_lint.specs.Linting.{AddsIn, FindsRangesBefore}
 use Rattle.peg_lint.specs.Spelling.{RangesBetween}
 use Rattle.peg_lint.specs.Warnings.{IsPartOfRule}
 use Rattle.peg_lint.proofs.classes.add_of_ranges.Given as goal
 
+-- a range of the class is found already, or the offset leads to it
 abbrev pub invariant-spelled : goal.invariant-spelled
 invariant-spelled l = record {
   before : RangesBetween l.file (l.class.start + 1) l.at;
-  kept : (rules : List Rule) (set : Bytes) → IsPartOfRule rules l.rule (Class set (extent l.class))
-      → KeepsTrueIn l.file rules l.fn.found.items l.found.items;
+  inside : l.at ≤ l.class.end;
+  adds : (rules : List Rule) (set : Bytes) → IsPartOfRule rules l.rule (Class set (extent l.class))
+      → IsWithin l.file (extent l.class)
+      → AddsIn l.file rules (FindsRangesBefore l.file l.rule (extent l.class) l.at) l.fn.found.items l.found.items;
 }
 
 abbrev pub decreases-spelled : goal.decreases-spelled

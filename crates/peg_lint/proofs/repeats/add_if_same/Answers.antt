@@ -3,7 +3,7 @@ use Rattle.peg_bytes.specs.Extent.{extent}
 use Rattle.peg_grammar.specs.Written.{form_of}
 use Rattle.peg_semantics.specs.Form.{Choice, forms}
 use Rattle.peg_lint.proofs.ChoiceLemmas.{before}
-use Rattle.peg_lint.proofs.PartLemmas.{KeepsTrue-push}
+use Rattle.peg_lint.proofs.FileLemmas.{KeepsTrue-push}
 use Rattle.peg_lint.proofs.SameLemmas.{same-results}
 use Rattle.peg_lint.specs.Linting.{KeepsTrue}
 use Rattle.peg_lint.specs.Warnings.{IsSameAlternative}

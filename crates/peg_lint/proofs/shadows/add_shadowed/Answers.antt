@@ -4,7 +4,7 @@ use Rattle.peg_grammar.specs.GrammarRules.{rules_in}
 use Rattle.peg_grammar.specs.Written.{form_of}
 use Rattle.peg_semantics.specs.Form.{Choice, forms}
 use Rattle.peg_lint.proofs.ChoiceLemmas.{before}
-use Rattle.peg_lint.proofs.PartLemmas.{KeepsTrue-push}
+use Rattle.peg_lint.proofs.FileLemmas.{KeepsTrue-both, KeepsTrue-push}
 use Rattle.peg_lint.specs.Linting.{KeepsTrue}
 use Rattle.peg_lint.specs.Warnings.{IsShadowed}
 use Rattle.peg_lint.specs.declared.warning.Warning.{Warning}
@@ -38,5 +38,5 @@ alternatives-preserved c = λ span part.
       ap Some (sym c.span_of-in-alternatives.ensures),
       c.in-Some.ensures.fails earlier later c.alternative_at-before.ensures c.alternative_at-later.ensures,
     ) in
-    λ start are. subst (KeepsTrue rules found) (sym c.in_ok-push.ensures.items) (KeepsTrue-push rules found w (λ start. says))
-    start (c.alternatives.invariant span part start are)
+    KeepsTrue-both rules c.args.found.now.items found c.push.new.self.items (c.alternatives.invariant span part)
+    (subst (KeepsTrue rules found) (sym c.in_ok-push.ensures.items) (KeepsTrue-push rules found w (λ start. says)))

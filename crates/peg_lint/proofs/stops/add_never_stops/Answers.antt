@@ -3,7 +3,7 @@ use Rattle.peg_bytes.specs.Extent.{extent}
 use Rattle.peg_grammar.specs.GrammarRules.{rules_in}
 use Rattle.peg_grammar.specs.Written.{form_of}
 use Rattle.peg_semantics.specs.Form.{forms}
-use Rattle.peg_lint.proofs.PartLemmas.{KeepsTrue-push}
+use Rattle.peg_lint.proofs.FileLemmas.{KeepsTrue-both, KeepsTrue-push}
 use Rattle.peg_lint.proofs.StopLemmas.{follows, never-stops}
 use Rattle.peg_lint.specs.Linting.{KeepsTrue}
 use Rattle.peg_lint.specs.Warnings.{IsNeverStopping}
@@ -42,5 +42,5 @@ items-preserved c = λ span part.
       ap Some (sym c.span_of-in-items.ensures),
       never-stops rules (forms (map form_of items)) span (form_of repeat) (form_of next) stuck.0 follow stuck.1 stuck.2,
     ) in
-    λ start are. subst (KeepsTrue rules found) (sym c.in_ok-push.ensures.items) (KeepsTrue-push rules found w (λ start. says))
-    start (c.items.invariant span part start are)
+    KeepsTrue-both rules c.args.found.now.items found c.push.new.self.items (c.items.invariant span part)
+    (subst (KeepsTrue rules found) (sym c.in_ok-push.ensures.items) (KeepsTrue-push rules found w (λ start. says)))

@@ -17,11 +17,14 @@ use Rattle.peg_semantics.specs.Form as form
 use Rattle.peg_semantics.specs.Form.{Form, Forms, Then, forms}
 use Rattle.peg_semantics.specs.RuleOutcomes.{IsAbstractOutcome}
 use Rattle.peg_semantics.specs.WellFormed.{below, subexpressions}
+use Rattle.peg_lint.specs.Linting.{Adds, FindsBelow, FindsExcluded, FindsOfAll, FindsUntried}
 use Rattle.peg_lint.specs.Outcomes.{AreOutcomes, outcome_of_all, outcome_of_any}
 use Rattle.peg_lint.specs.Warnings.{IsPartOfRule}
 use Rattle.peg_lint.proofs.OutcomeLemmas.{of-Any, of-Choice, of-Class, of-Seq}
 use Rattle.peg_lint.proofs.PartLemmas.{AreOutcomes-all, AreOutcomes-more, choice-with, first-is, form_of-Any, form_of-Class}
-use Rattle.peg_lint.proofs.PartLemmas.{form_of-Literal, is_on, item-parts, items-are, itself, rest-are, whole}
+use Rattle.peg_lint.proofs.PartLemmas.{first-placed, form_of-Literal, is_on, item-among, item-parts, items-are, items-placed}
+use Rattle.peg_lint.proofs.PartLemmas.{itself, rest-are, rest-placed, whole}
+use Rattle.peg_lint.proofs.VisitLemmas.{Adds-choice, Adds-leaf, Adds-operator, Adds-seq, IsLeaf, below-all, below-end, below-more}
 use Rattle.peg_lint.proofs.visit.+lint.Goals as goal
 
 -- an item is no deeper than the deepest one
@@ -65,9 +68,31 @@ lint_all-loop-item-preserved t c =
         ap length c.in_ok-push.ensures.items,
         length-append cans (c.in_ok-can.can ∷ []),
       );
-      kept = λ start are. c.in_ok-add_never_matches.ensures rules part c.in_ok-can.ensures.outcome start
-          (c.in_ok-can.ensures.true_warnings start (c.loop-item.invariant.kept start are));
+      adds = below-more rules c.args.rule (form_of item) (forms (drop i (map form_of items)))
+          (forms (drop (i + 1) (map form_of items))) all c.args.found.now.items c.loop-item.found.items
+          c.lint_expression.new.found.items c.add_never_matches.new.found.items step c.loop-item.invariant.adds
+          c.in_ok-can.ensures.adds (c.in_ok-add_never_matches.ensures rules part
+          (c.requires.placed (form_of item) (item-among items i item within c.item-item.is)) c.in_ok-can.ensures.outcome);
     }
+
+pub lint_all-loop-item-init : goal.lint_all-loop-item-init
+lint_all-loop-item-init t c =
+    let rules = rules_in c.args.grammar.now in
+    let all = forms (map form_of c.args.items.now) in
+    record {
+      outcomes = λ rest are. subst (λ (l : List code.Can). AreOutcomes rules all (map can_of l ++ rest))
+          (sym c.new-cans.ensures.items) are;
+      count = ap length c.new-cans.ensures.items;
+      adds = below-all rules c.args.rule all c.args.found.now.items;
+    }
+
+pub lint_all-returns-clause-adds : goal.lint_all-returns-clause-adds
+lint_all-returns-clause-adds t c =
+    let items = c.args.items.now in
+    let i = c.loop-item.item-index in
+    below-end (rules_in c.args.grammar.now) c.args.rule (forms (drop i (map form_of items))) (forms (map form_of items))
+    c.args.found.now.items c.loop-item.found.items
+    (forms-drop_all form_of items i (omega (arith, c.loop-item-test.false))) c.loop-item.invariant.adds
 
 pub lint_all-returns-clause-outcomes : goal.lint_all-returns-clause-outcomes
 lint_all-returns-clause-outcomes t c =
@@ -85,9 +110,14 @@ lint_expression-lint_all-requires t c =
       search (search_rules, the_lemmas),
       (
         c.requires.outcomes,
-        items-are (rules_in c.args.grammar.now) c.args.rule (form_of c.args.expr.now) c.requires.parts items
-            (extent c.in-Seq.span) (ap form_of c.in-Seq.is ∙ form_of-Seq c.in-Seq.items c.in-Seq.span)
-            (forms (map form_of c.deref-in-Seq.result.now)) here,
+        (
+          items-are (rules_in c.args.grammar.now) c.args.rule (form_of c.args.expr.now) c.requires.parts items
+              (extent c.in-Seq.span) (ap form_of c.in-Seq.is ∙ form_of-Seq c.in-Seq.items c.in-Seq.span)
+              (forms (map form_of c.deref-in-Seq.result.now)) here,
+          items-placed (rules_in c.args.grammar.now) c.args.rule (form_of c.args.expr.now) c.requires.parts items
+              (extent c.in-Seq.span) (ap form_of c.in-Seq.is ∙ form_of-Seq c.in-Seq.items c.in-Seq.span)
+              (forms (map form_of c.deref-in-Seq.result.now)) here,
+        ),
       ),
     )
 
@@ -121,8 +151,12 @@ lint_expression-lint_all-requires-in-Choice t c =
       search (search_rules, the_lemmas),
       (
         c.requires.outcomes,
-        rest-are rules c.args.rule (form_of c.args.expr.now) c.requires.parts first rest span same
-            (forms (map form_of c.deref-in-Choice-3.result.now)) at_rest,
+        (
+          rest-are rules c.args.rule (form_of c.args.expr.now) c.requires.parts first rest span same
+              (forms (map form_of c.deref-in-Choice-3.result.now)) at_rest,
+          rest-placed rules c.args.rule (form_of c.args.expr.now) c.requires.parts first rest span same
+              (forms (map form_of c.deref-in-Choice-3.result.now)) at_rest,
+        ),
       ),
     )
 
@@ -212,8 +246,8 @@ lint_expression-returns-in_ok-add_never_tried-in-Choice-clause-outcome t c =
     (subst (λ (can : Can). IsAbstractOutcome rules (form.Choice first rest span) can) (sym outcome)
     (of-Choice rules first rest span can (map can_of cans) one others))
 
-pub lint_expression-returns-in_ok-add_never_tried-in-Choice-clause-true_warnings : goal.lint_expression-returns-in_ok-add_never_tried-in-Choice-clause-true_warnings
-lint_expression-returns-in_ok-add_never_tried-in-Choice-clause-true_warnings t c =
+pub lint_expression-returns-in_ok-add_never_tried-in-Choice-clause-adds : goal.lint_expression-returns-in_ok-add_never_tried-in-Choice-clause-adds
+lint_expression-returns-in_ok-add_never_tried-in-Choice-clause-adds t c =
     let rules = rules_in c.args.grammar.now in
     let first = form_of c.in-Choice.first.value in
     let rest = forms (map form_of c.in-Choice.rest.items) in
@@ -248,12 +282,28 @@ lint_expression-returns-in_ok-add_never_tried-in-Choice-clause-true_warnings t c
     (forms (map form_of c.deref-in-Choice-7.result.now)) can cans cans at_first (ap form_of c.deref-in-Choice-6.ensures)
     at_rest (ap (λ (l : List Expr). forms (map form_of l)) c.deref-in-Choice-7.ensures.value) refl
     c.in_ok-can-in-Choice.ensures.outcome c.in_ok-cans-in-Choice.ensures.outcomes in
-    λ start are. c.in_ok-add_never_tried-in-Choice.ensures rules span choice start
-    (c.in_ok-add_shadowed-in-Choice.ensures span shadowed.part start
-    (c.in_ok-add_same_alternatives-in-Choice.ensures rules span again.part start
-    (c.in_ok-cans-in-Choice.ensures.true_warnings start
-    (c.in_ok-add_never_matches-in-Choice.ensures rules part outcome start
-    (c.in_ok-can-in-Choice.ensures.true_warnings start are)))))
+    let number = c.args.rule in
+    let l0 = c.args.found.now.items in
+    let l1 = c.lint_expression.new.found.items in
+    let l2 = c.add_never_matches.new.found.items in
+    let l3 = c.lint_all-in-Choice.new.found.items in
+    let l4 = c.add_same_alternatives.new.found.items in
+    let l5 = c.add_shadowed.new.found.items in
+    let l6 = c.add_never_tried.new.found.items in
+    let placed = first-placed rules number e parts first rest span same (form_of c.deref-in-Choice-2.result.now) at_second in
+    let ninth : form.Choice (form_of c.deref-in-Choice-8.result.now) (forms (map form_of c.deref-in-Choice-9.result.now)) span
+    ≡ form.Choice first rest span = λ i. form.Choice (at_fourth i) (at_fifth i) span in
+    subst (λ (f : Form). Adds rules (FindsOfAll rules number (subexpressions f)) l0 l6) (sym same)
+    (Adds-choice rules number first rest span l0 l1 l2 l3 l4 l5 l6
+    (subst (λ (f : Form). Adds rules (FindsOfAll rules number (subexpressions f)) l0 l1) at_first
+    c.in_ok-can-in-Choice.ensures.adds)
+    (subst (λ (f : Form). Adds rules (FindsExcluded rules number f) l1 l2) at_second
+    (c.in_ok-add_never_matches-in-Choice.ensures rules part placed outcome))
+    (subst (λ (f : Forms). Adds rules (FindsBelow rules number f) l2 l3) at_rest c.in_ok-cans-in-Choice.ensures.adds)
+    (c.in_ok-add_same_alternatives-in-Choice.ensures rules span again.part)
+    (c.in_ok-add_shadowed-in-Choice.ensures span shadowed.part)
+    (subst (λ (f : Form). Adds rules (FindsUntried rules number f) l5 l6) ninth
+    (c.in_ok-add_never_tried-in-Choice.ensures rules span choice)))
 
 pub lint_expression-returns-in_ok-add_operator-in-Optional-clause-outcome : goal.lint_expression-returns-in_ok-add_operator-in-Optional-clause-outcome
 lint_expression-returns-in_ok-add_operator-in-Optional-clause-outcome t c =
@@ -264,24 +314,60 @@ lint_expression-returns-in_ok-add_operator-in-Optional-clause-outcome t c =
     let outcome = subst (λ (f : Form). IsAbstractOutcome rules f can) at_part c.in_ok-can-in-Optional.ensures.outcome in
     c.operator_outcome.ensures rules (form_of c.in-Optional.part.value) on.on outcome
 
-pub lint_expression-returns-in_ok-add_operator-in-Optional-clause-true_warnings : goal.lint_expression-returns-in_ok-add_operator-in-Optional-clause-true_warnings
-lint_expression-returns-in_ok-add_operator-in-Optional-clause-true_warnings t c =
+pub lint_expression-returns-in_ok-add_operator-in-Optional-clause-adds : goal.lint_expression-returns-in_ok-add_operator-in-Optional-clause-adds
+lint_expression-returns-in_ok-add_operator-in-Optional-clause-adds t c =
     let rules = rules_in c.args.grammar.now in
+    let number = c.args.rule in
+    let x = form_of c.args.expr.now in
     let on = is_on c.args.expr.now c.in-Optional.part c.in-Optional.is in
+    let e = form_of c.in-Optional.part.value in
     let at_part = ap form_of c.deref-in-Optional.ensures in
     let can = can_of c.in_ok-can-in-Optional.can in
     let outcome = subst (λ (f : Form). IsAbstractOutcome rules f can) at_part c.in_ok-can-in-Optional.ensures.outcome in
-    let part = whole rules c.args.rule (form_of c.args.expr.now) c.requires.parts in
-    λ start are. c.in_ok-add_operator-in-Optional.ensures rules (form_of c.in-Optional.part.value) part on.on outcome start
-    (c.in_ok-can-in-Optional.ensures.true_warnings start are)
+    let part = whole rules number x c.requires.parts in
+    let l0 = c.args.found.now.items in
+    let l1 = c.lint_expression-in-Optional.new.found.items in
+    let l2 = c.add_operator.new.found.items in
+    Adds-operator rules number x e l0 l1 l2 on.on on.below_is
+    (subst (λ (f : Form). Adds rules (FindsOfAll rules number (subexpressions f)) l0 l1) at_part
+    c.in_ok-can-in-Optional.ensures.adds)
+    (c.in_ok-add_operator-in-Optional.ensures rules e part on.on outcome)
 
-pub lint_expression-returns-in_ok-add_never_stops-in-Seq-clause-true_warnings : goal.lint_expression-returns-in_ok-add_never_stops-in-Seq-clause-true_warnings
-lint_expression-returns-in_ok-add_never_stops-in-Seq-clause-true_warnings t c =
+pub lint_expression-returns-in_ok-add_never_stops-in-Seq-clause-adds : goal.lint_expression-returns-in_ok-add_never_stops-in-Seq-clause-adds
+lint_expression-returns-in_ok-add_never_stops-in-Seq-clause-adds t c =
     let rules = rules_in c.args.grammar.now in
+    let number = c.args.rule in
     let items = forms (map form_of c.in-Seq.items.items) in
     let span = extent c.in-Seq.span in
     let same = ap form_of c.in-Seq.is ∙ form_of-Seq c.in-Seq.items c.in-Seq.span in
+    let at_items = ap (λ (l : List Expr). forms (map form_of l)) c.deref-in-Seq.ensures.value in
     let here = ap (λ (l : List Expr). form.Seq (forms (map form_of l)) span) c.deref-in-Seq-2.ensures.value in
-    let part = subst (IsPartOfRule rules c.args.rule) (same ∙ sym here)
-    (whole rules c.args.rule (form_of c.args.expr.now) c.requires.parts) in
-    λ start are. c.in_ok-add_never_stops-in-Seq.ensures span part start (c.in_ok-cans-in-Seq.ensures.true_warnings start are)
+    let part = subst (IsPartOfRule rules number) (same ∙ sym here)
+    (whole rules number (form_of c.args.expr.now) c.requires.parts) in
+    let l0 = c.args.found.now.items in
+    let l1 = c.lint_all.new.found.items in
+    let l2 = c.add_never_stops.new.found.items in
+    subst (λ (f : Form). Adds rules (FindsOfAll rules number (subexpressions f)) l0 l2) (sym same)
+    (Adds-seq rules number items span l0 l1 l2
+    (subst (λ (f : Forms). Adds rules (FindsBelow rules number f) l0 l1) at_items c.in_ok-cans-in-Seq.ensures.adds)
+    (c.in_ok-add_never_stops-in-Seq.ensures span part))
+
+pub lint_expression-returns-in-Literal-clause-adds : goal.lint_expression-returns-in-Literal-clause-adds
+lint_expression-returns-in-Literal-clause-adds t c =
+    Adds-leaf (rules_in c.args.grammar.now) c.args.rule (form_of c.args.expr.now) c.args.found.now.items
+    (subst IsLeaf (sym (ap form_of c.in-Literal.is ∙ form_of-Literal c.in-Literal.bytes c.in-Literal.span)) tt)
+
+pub lint_expression-returns-in-Class-clause-adds : goal.lint_expression-returns-in-Class-clause-adds
+lint_expression-returns-in-Class-clause-adds t c =
+    Adds-leaf (rules_in c.args.grammar.now) c.args.rule (form_of c.args.expr.now) c.args.found.now.items
+    (subst IsLeaf (sym (ap form_of c.in-Class.is ∙ form_of-Class c.in-Class.set c.in-Class.span)) tt)
+
+pub lint_expression-returns-in-Any-clause-adds : goal.lint_expression-returns-in-Any-clause-adds
+lint_expression-returns-in-Any-clause-adds t c =
+    Adds-leaf (rules_in c.args.grammar.now) c.args.rule (form_of c.args.expr.now) c.args.found.now.items
+    (subst IsLeaf (sym (ap form_of c.in-Any.is ∙ form_of-Any c.in-Any.span)) tt)
+
+pub lint_expression-returns-in-Name-clause-adds : goal.lint_expression-returns-in-Name-clause-adds
+lint_expression-returns-in-Name-clause-adds t c =
+    Adds-leaf (rules_in c.args.grammar.now) c.args.rule (form_of c.args.expr.now) c.args.found.now.items
+    (subst IsLeaf (sym (ap form_of c.in-Name.is ∙ form_of-Name c.in-Name.name c.in-Name.span)) tt)

@@ -4,7 +4,7 @@ use Rattle.peg_grammar.specs.GrammarRules.{rules_in}
 use Rattle.peg_grammar.specs.Written.{form_of}
 use Rattle.peg_semantics.specs.AbstractOutcomes.{Can}
 use Rattle.peg_semantics.specs.Form.{forms}
-use Rattle.peg_lint.specs.Linting.{KeepsTrue}
+use Rattle.peg_lint.specs.Linting.{Adds, FindsBelowBut}
 use Rattle.peg_lint.specs.Outcomes.{AreOutcomes}
 use Rattle.peg_lint.proofs.visit.+lint.Given as goal
 
@@ -14,5 +14,6 @@ invariant-lint_all-loop-item l = record {
   outcomes : (rest : List Can) → AreOutcomes (rules_in l.grammar) (forms (drop l.item-index (map form_of l.items))) rest
       → AreOutcomes (rules_in l.grammar) (forms (map form_of l.items)) (map can_of l.cans.items ++ rest);
   count : length l.cans.items ≡ l.item-index;
-  kept : KeepsTrue (rules_in l.grammar) l.fn.found.items l.found.items;
+  adds : Adds (rules_in l.grammar) (FindsBelowBut (rules_in l.grammar) l.rule (forms (drop l.item-index (map form_of l.items)))
+      (forms (map form_of l.items))) l.fn.found.items l.found.items;
 }

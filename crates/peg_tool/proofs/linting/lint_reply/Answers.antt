@@ -1,7 +1,7 @@
 use Rattle.std.proofs.Common.{All, IsTrue, subst, sym}
 use Rattle.peg_semantics.specs.Rules.{names}
 use Rattle.peg_grammar.specs.GrammarRules.{rules_in}
-use Rattle.peg_lint.specs.FileWarnings.{IsTrueWarningIn, is_selected}
+use Rattle.peg_lint.specs.FileWarnings.{FindsAll, IsTrueWarningIn, is_selected}
 use Rattle.peg_lint.specs.Warnings.{IsInWrittenOrder}
 use Rattle.peg_json.specs.Lints.{LintsTo, warned}
 use Rattle.peg_json.specs.Reply.{Linted}
@@ -23,4 +23,6 @@ returns c start is =
     (subst (All (IsTrueWarningIn c.args.file.now rules c.args.rule)) (sym c.deref.ensures.value) c.in_ok-found.ensures.true_warnings)
     (subst (All (λ warning. IsTrue (is_selected c.args.selection warning))) (sym c.deref.ensures.value)
     c.in_ok-found.ensures.selected)
+    (subst (FindsAll c.args.file.now rules c.args.rule c.args.selection) (sym c.deref.ensures.value)
+    c.in_ok-found.ensures.all)
     (subst IsInWrittenOrder (sym c.deref.ensures.value) c.in_ok-found.ensures.in_order))

@@ -1,0 +1,169 @@
+-- The ranges of a class, one after another.
+use Rattle.std.proofs.Common.{◌≡◌, ◌+◌, ◌<◌, ◌≤◌, ◌⊎◌, inl, inr, ℕ, IsTrue, List, [], ◌∷◌, None, Some, refl, sym, ap, ◌∙◌, subst, arith}
+use Rattle.peg_lexer.specs.Matchers.{PrefixMatch}
+use Rattle.peg_bytes.specs.Extent.{Extent, between}
+use Rattle.peg_metagrammar.specs.Denotation.{Bytes}
+use Rattle.peg_metagrammar.specs.Ranges.{Range, range}
+use Rattle.peg_lint.specs.Habits.{ends_in_bracket, text_in}
+use Rattle.peg_lint.specs.Linting.{FindsRanges, FindsRangesBefore, Keeps}
+use Rattle.peg_lint.specs.Spelling.{IsRangeAt, IsRangeOfClass, RangesBetween, none, one_more, range_match}
+use Rattle.peg_lint.specs.Warnings.{HasWarning}
+use Rattle.peg_lint.specs.declared.warning.Warning.{Warning}
+use Rattle.peg_lint.specs.declared.warning.WarningKind.{WarningKind}
+use Rattle.peg_lint.specs.declared.warning.WarningKind.TheVariants as kind
+use Rattle.peg_lint.proofs.FileLemmas.{HasWarning-later}
+
+module _ (file : List ℕ) where
+  -- ranges lead onward
+  pub onward : {start at : ℕ} → RangesBetween file start at → start ≤ at
+  onward none = omega arith
+  onward (one_more {at} {length} before read) =
+      let so_far = onward before in omega (arith, so_far)
+
+  -- a range at an offset, and ranges from its end to another offset
+  abbrev pub BeginsWithRange : (start end : ℕ) → Type 0
+  BeginsWithRange start end =
+      (length : ℕ) × (bytes : Range) × IsRangeAt file start length bytes × RangesBetween file (start + length) end
+
+  -- the first of consecutive ranges
+  pub first-range : {start at : ℕ} → RangesBetween file start at → (at ≡ start) ⊎ BeginsWithRange start at
+  first-range none = inl refl
+  first-range {start = start} (one_more {at} {length} {bytes} before read) =
+      elim (first-range before) [
+        | inl same ↦
+            let here : IsRangeAt file start length bytes = subst (λ n. IsRangeAt file n length bytes) same read in
+            inr (length, bytes, here, subst (λ n. RangesBetween file (start + length) (n + length)) (sym same) none)
+        | inr begins ↦ inr (begins.0, begins.1, begins.2, one_more begins.3 read)
+      ]
+
+  -- the range at an offset is the only one
+  pub same-length : (at length other : ℕ) (bytes these : Range) → IsRangeAt file at length bytes
+      → IsRangeAt file at other these → length ≡ other
+  same-length at length other bytes these one two =
+      let same : Some (range_match bytes length) ≡ Some (range_match these other) = sym one ∙ two in
+      let pair : range_match bytes length ≡ range_match these other = cc in
+      ap (λ (m : PrefixMatch). m.length) pair
+
+  pub same-bytes : (at length other : ℕ) (bytes these : Range) → IsRangeAt file at length bytes
+      → IsRangeAt file at other these → bytes ≡ these
+  same-bytes at length other bytes these one two =
+      let same : Some (range_match bytes length) ≡ Some (range_match these other) = sym one ∙ two in
+      let pair : range_match bytes length ≡ range_match these other = cc in
+      let spelled : Bytes bytes ∷ [] ≡ Bytes these ∷ [] = ap (λ (m : PrefixMatch). m.spells) pair in
+      cc
+
+  -- a range of a class at an offset or after it, where a range begins: it is that range, or after its end
+  pub this-or-later : (class : Extent) (at length : ℕ) (bytes : Range) → IsRangeAt file at length bytes
+      → (span : Extent) (these : Range) → IsRangeOfClass file class span these → RangesBetween file at span.start
+      → ((span ≡ between at (at + length)) × (these ≡ bytes)) ⊎ RangesBetween file (at + length) span.start
+  this-or-later class at length bytes read span these is between_them =
+      elim (first-range between_them) [
+        | inl here ↦
+            let there : IsRangeAt file at is.length these = subst (λ n. IsRangeAt file n is.length these) here is.read in
+            let long : is.length ≡ length = same-length at is.length length these bytes there read in
+            let end : span.end ≡ at + length = sym is.ends ∙ λ i. here i + long i in
+            inl ((λ i. between (here i) (end i)), same-bytes at is.length length these bytes there read)
+        | inr begins ↦
+            let long : begins.0 ≡ length = same-length at begins.0 length begins.1 bytes begins.2 read in
+            inr (subst (λ n. RangesBetween file (at + n) span.start) long begins.3)
+      ]
+
+  -- where no range begins that ends within a class, no range of the class follows
+  pub no-more : (class : Extent) (at : ℕ)
+      → ((length : ℕ) (bytes : Range) → IsRangeAt file at length bytes → class.end < at + length)
+      → (span : Extent) (these : Range) → IsRangeOfClass file class span these → RangesBetween file at span.start → ⊥
+  no-more class at none_fits span these is between_them =
+      elim (first-range between_them) [
+        | inl here ↦
+            let there : IsRangeAt file at is.length these = subst (λ n. IsRangeAt file n is.length these) here is.read in
+            let past = none_fits is.length these there in
+            let ends = is.ends in
+            let within = is.within in
+            absurd (omega (arith, here, past, ends, within))
+        | inr begins ↦
+            let past = none_fits begins.0 begins.1 begins.2 in
+            let more = onward begins.3 in
+            let ends = is.ends in
+            let within = is.within in
+            absurd (omega (arith, past, more, ends, within))
+      ]
+
+  -- a class without an inside has no ranges
+  pub no-inside : (class span : Extent) (these : Range) → class.end ≤ class.start → IsRangeOfClass file class span these
+      → ⊥
+  no-inside class span these short is =
+      let more = onward is.before in
+      let ends = is.ends in
+      let within = is.within in
+      omega (arith, short, more, ends, within)
+
+  -- ---- the warnings about the ranges
+
+  -- the warnings about one more range are found
+  pub FindsRangesBefore-next : (number : ℕ) (class : Extent) (at length low high : ℕ) (l0 l1 l2 : List Warning)
+      → IsRangeAt file at length (range low high) → Keeps l0 l1 → Keeps l1 l2
+      → (high < low → HasWarning l1 kind.ReversedRange number (between at (at + length)) None)
+      → (IsTrue (ends_in_bracket (text_in file (between at (at + length))))
+      → HasWarning l2 kind.ClassEndsInRange number (between at (at + length)) None)
+      → FindsRangesBefore file number class at l0 → FindsRangesBefore file number class (at + length) l2
+  FindsRangesBefore-next number class at length low high l0 l1 l2 read first second reversed to_bracket finds = record {
+    reversed = λ span is.
+        elim (finds.reversed span is) [
+          | inl has ↦ inl (both kind.ReversedRange span has)
+          | inr leads ↦
+              elim (this-or-later class at length (range low high) read span (range is.0 is.1) is.2 leads) [
+                | inl this ↦
+                    let down : high < low = this-less (range is.0 is.1) this.1 is.3 in
+                    inl (subst (λ s. HasWarning l2 kind.ReversedRange number s None) (sym this.0)
+                    (HasWarning-later l1 l2 second kind.ReversedRange number (between at (at + length)) None (reversed down)))
+                | inr later ↦ inr later
+              ]
+        ];
+    to_bracket = λ span is.
+        elim (finds.to_bracket span is) [
+          | inl has ↦ inl (both kind.ClassEndsInRange span has)
+          | inr leads ↦
+              elim (this-or-later class at length (range low high) read span is.0 is.1 leads) [
+                | inl this ↦
+                    inl (subst (λ s. HasWarning l2 kind.ClassEndsInRange number s None) (sym this.0)
+                    (to_bracket (subst (λ s. IsTrue (ends_in_bracket (text_in file s))) this.0 is.2)))
+                | inr later ↦ inr later
+              ]
+        ];
+  }
+    where
+      both : (what : WarningKind) (span : Extent) → HasWarning l0 what number span None
+          → HasWarning l2 what number span None
+      both what span has =
+          HasWarning-later l1 l2 second what number span None (HasWarning-later l0 l1 first what number span None has)
+
+      this-less : (these : Range) → these ≡ range low high → these.high < these.low → high < low
+      this-less these same h =
+          let a = ap (λ (r : Range). r.low) same in
+          let b = ap (λ (r : Range). r.high) same in
+          omega (arith, a, b, h)
+
+  -- all ranges are found where no more begins
+  pub FindsRanges-all : (number : ℕ) (class : Extent) (at : ℕ) (found : List Warning)
+      → ((length : ℕ) (bytes : Range) → IsRangeAt file at length bytes → class.end < at + length)
+      → FindsRangesBefore file number class at found → FindsRanges file number class found
+  FindsRanges-all number class at found none_fits finds = record {
+    reversed = λ span is.
+        elim (finds.reversed span is) [
+          | inl has ↦ has
+          | inr leads ↦ absurd (no-more class at none_fits span (range is.0 is.1) is.2 leads)
+        ];
+    to_bracket = λ span is.
+        elim (finds.to_bracket span is) [
+          | inl has ↦ has
+          | inr leads ↦ absurd (no-more class at none_fits span is.0 is.1 leads)
+        ];
+  }
+
+  -- a class without an inside has no warning about ranges
+  pub FindsRanges-none : (number : ℕ) (class : Extent) (found : List Warning) → class.end ≤ class.start
+      → FindsRanges file number class found
+  FindsRanges-none number class found short = record {
+    reversed = λ span is. absurd (no-inside class span (range is.0 is.1) short is.2);
+    to_bracket = λ span is. absurd (no-inside class span is.0 short is.1);
+  }
