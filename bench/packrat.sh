@@ -17,7 +17,7 @@ from texts import EXAMPLES
 
 PROGRAM, FOLDER = sys.argv[1:]
 RUNS = 3
-DEPTHS = [1_000 << exponent for exponent in range(5)]
+DEPTHS = [1_000 << exponent for exponent in range(7)]
 
 with open(f"{FOLDER}/twice.peg", "w") as file:
     file.write("A <- '(' A ')' 'x' / '(' A ')' 'y' / 'a'\n")
@@ -34,7 +34,7 @@ def twice(levels):
 # For each case the grammar, its texts, and their depths.
 CASES = {
     "parentheses in C": (f"{EXAMPLES}/c.peg", in_c, DEPTHS),
-    "alternatives with a common prefix": (f"{FOLDER}/twice.peg", twice, [*DEPTHS, 32_000, 64_000, 128_000]),
+    "alternatives with a common prefix": (f"{FOLDER}/twice.peg", twice, [*DEPTHS, 128_000]),
 }
 
 print("| Text | Levels | Bytes | Seconds | Microseconds a level | MiB |")

@@ -1,4 +1,5 @@
-//! Memos: they store the results of rules by position, up to a capacity.
+//! Memos, which store the results of rules by position, up to a capacity, and node stores, which hold the nodes of a run
+//! and its memo.
 #![tactic(auto)]
 
 mod copied_nodes;

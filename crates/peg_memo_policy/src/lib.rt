@@ -7,6 +7,7 @@ mod policy;
 mod recent_filter;
 mod rerun_cost;
 mod rerun_costs;
+mod room;
 mod selective_store;
 mod size;
 mod stars;

@@ -12,16 +12,13 @@ use crate::RerunCosts;
 use crate::link_table::LinkTable;
 use crate::linked_result::LinkedResult;
 use crate::policy::{Decision, Policy};
+use crate::room::Room;
 use crate::size::Size;
 use peg_bytes::Span;
 use peg_memo::{NodeStore, Recalled};
 use peg_nodes::LinkedNodes;
 use peg_tree::TreeNode;
 use std::alloc::{AllocError, Global};
-
-// The number of items that may always be stored. The store is emptied when it has more, and four times as many as there
-// are nodes. So its size is at most proportional to the tree, and each emptying is paid by the items moved before it.
-const MIN_ITEM_LIMIT: usize = 1_048_576;
 
 /// The nodes of a run over one text, with links in the place of stored results, and a memo of bounded size. The memo
 /// stores the results that are worth their cost. It relies on the order of calls that a machine makes: `touch`, then
@@ -31,6 +28,8 @@ const MIN_ITEM_LIMIT: usize = 1_048_576;
 /// A hit takes constant time. To store a result takes time for its items that are not stored yet, so each node moves
 /// once.
 ///
+/// What evicted entries leave in the store can't be freed alone, so a store with too many items is emptied as a whole.
+///
 /// If an allocation for a result fails, the least recently used entries are evicted until it succeeds. The memo is out
 /// of memory if no entry is left and it still fails, or if the start of a body can't be recorded.
 #[derive(Drop)]
@@ -38,6 +37,8 @@ pub struct SelectiveStore<'a> {
     nodes: LinkedNodes,
     results: LinkTable,
     policy: Policy<'a>,
+    // How many items may be stored.
+    room: Room,
     // Whether the call that was touched last has an entry.
     hit: bool,
     // Whether a result could not be stored though no other entry was left.
@@ -66,6 +67,7 @@ impl<'a> SelectiveStore<'a> {
             nodes: LinkedNodes::new(alloc),
             results: LinkTable::new(alloc, capacity)?,
             policy: Policy::new(alloc, capacity, costs, text)?,
+            room: Room::new(),
             hit: false,
             out_of_memory: false,
             allocation_failed: false,
@@ -116,35 +118,34 @@ impl SelectiveStore<'_> {
         }
     }
 
-    // Empties the store if it has too many items: the links among the nodes are replaced by their nodes, and the memo
-    // forgets its entries. If an allocation fails, the memo is out of memory.
+    // Empties the store: the links among the nodes are replaced by their nodes, and the memo forgets its entries. If an
+    // allocation fails, the memo is out of memory.
     #[inline(never)]
     fn make_room(&mut self)
         ensures nodes { nodes_of self.new.nodes ≡ nodes_of self.old.nodes }
         ensures memo { IsTouched (state_by self.old).memo (state_by self.new).memo }
         ensures cuts { (count : ℕ) → IsCut self.old.nodes count → IsCut self.new.nodes count }
     {
+        self.room.note_emptied();
         self.results.clear();
         if self.nodes.flatten().is_err() {
             self.out_of_memory = true;
         }
     }
 
-    // Empties the store if it has too many items.
-    fn make_room_if_full(&mut self)
+    // Empties the store if it has too many items, when a match ends at `end`.
+    fn make_room_if_full(&mut self, end: u32)
         ensures nodes { nodes_of self.new.nodes ≡ nodes_of self.old.nodes }
         ensures memo { IsTouched (state_by self.old).memo (state_by self.new).memo }
         ensures cuts { (count : ℕ) → IsCut self.old.nodes count → IsCut self.new.nodes count }
     {
-        if self.is_full() {
+        self.room.note_end(end);
+        if self
+            .room
+            .is_exceeded(self.nodes.stored_len(), self.nodes.len())
+        {
             self.make_room();
         }
-    }
-
-    // Whether the store has too many items.
-    fn is_full(&self) -> bool {
-        let stored = self.nodes.stored_len();
-        stored > MIN_ITEM_LIMIT && stored / 4 > self.nodes.len()
     }
 
     // Closes the newest open node, which is at `at`, and stores the result of its call if it is wanted. Returns whether
@@ -301,7 +302,7 @@ impl NodeStore for SelectiveStore<'_> {
     }
 
     fn finish(&mut self, at: usize, rule: u32, start: u32, end: u32) -> bool {
-        self.make_room_if_full();
+        self.make_room_if_full(end);
         self.close(at, rule, start, end)
     }
 

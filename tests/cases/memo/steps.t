@@ -95,3 +95,10 @@ parent.
   $ pegtool parse twice.peg 100.txt --memo 4096 --rows > line
   > (printf '{"consumed":301,"expected":[[15,18]],"far":300,"result":"matched","rows":['
   > seq 0 100 | awk '{printf "%s[%d,\"A\",%d,%d]", $1 ? "," : "", $1 + 1, $1, 301 - 2 * $1}'; echo ']}') | cmp - line
+
+40,000 parentheses in C have over 2^20 stored nodes and links, so these are forgotten, and work is repeated. A level
+takes some 200 steps. A thousand for each are enough, unless the results are lost again and again.
+
+  $ (printf '(%.0s' $(seq 40000); printf x; printf ')%.0s' $(seq 40000); echo ';') > deep.txt
+  $ pegtool parse examples/c.peg deep.txt --no-tree --steps 40000000 | grep -o '"result":"[a-z]*"'
+  "result":"matched"
