@@ -1,10 +1,12 @@
 -- The texts in files, and what they use.
-use Rattle.std.proofs.Common.{◌≡◌, ◌↔◌, ◌∙◌, ℕ, ◌+◌, ◌<◌, ◌≤◌, ◌++◌, All, Any, Bool, true, false, ◌||◌, List, [], ◌∷◌}
-use Rattle.std.proofs.Common.{Option, None, Some, IfSome, add-one, ap, arith, cond, count_by, filter, get_or, length, map, refl, string_bytes}
+use Rattle.std.proofs.Common.{◌≡◌, ◌↔◌, ◌∙◌, ℕ, ◌+◌, ◌<◌, ◌≤◌, ◌++◌, ◌≢◌, ◌⊎◌, inl, inr, All, Bool, true, false, ◌||◌, List, [], ◌∷◌}
+use Rattle.std.proofs.Common.{Option, None, Some, IfSome, add-one, ap, arith, cond, count_by, filter, get_or, length, map, option_map, refl, string_bytes}
 use Rattle.std.proofs.Common.{length-take, IfErr, IfOk, OnErr, OnOk, Result, Ok, Err, subst, sym, take}
 use Rattle.std.specs.Prelude.{IsErrAnd}
 use Rattle.std.proofs.Math.Seq.{take-suc}
-use Rattle.std.proofs.lemmas.List.{get_or-map, length-map, map-append, take_all}
+use Rattle.std.proofs.lemmas.List.{length-map, map-append, take-map, take_all}
+use Rattle.std.proofs.lemmas.Bool.{cases_lt}
+use Rattle.std.proofs.lemmas.Option.{slice_get-get_or, slice_get-map}
 use Rattle.std.proofs.lemmas.List.Elements.{All-cons, All-nil, All-push, filter-append}
 use Rattle.std.proofs.lemmas.List.Folds.{list_any-append}
 use Rattle.std.proofs.lemmas.List.Sums.{sum_by_push}
@@ -16,7 +18,7 @@ use Rattle.peg_coverage.specs.Covered.{is_match, is_stopped, is_used, match_of, 
 use Rattle.peg_coverage.specs.declared.coverage_parser.TextMatch.{TextMatch}
 use Rattle.peg_coverage.specs.declared.coverage_parser.TextMatch.TheVariants as found
 use Rattle.peg_coverage_files.specs.CoveredTexts.{HasCoveredText, IsReadOf}
-use Rattle.peg_coverage_files.specs.CoveringFaults.{IsFaultOf, IsFaultOfText}
+use Rattle.peg_coverage_files.specs.CoveringFaults.{IsFaultOf, IsFaultOfText, IsFirst, IsParsable}
 use Rattle.peg_coverage_files.specs.NamedTexts.{files_named, texts_in}
 use Rattle.peg_coverage_files.specs.TextEnds.{end_of, end_of_parse, matches_of, stops_of}
 use Rattle.peg_coverage_files.specs.declared.counts.TextEnd.{TextEnd}
@@ -24,10 +26,12 @@ use Rattle.peg_coverage_files.specs.declared.counts.TextEnd.TheVariants as end
 use Rattle.peg_coverage_files.specs.declared.fault.CoveringFault.{CoveringFault}
 use Rattle.peg_coverage_files.specs.declared.fault.CoveringFault.TheVariants as covering
 use Rattle.peg_grammar.specs.Limits.{max_text_bytes}
+use Rattle.peg_parser.specs.ParseContract.{HasParseFaults}
+use Rattle.peg_semantics.specs.Starts.{start_name}
 use Rattle.peg_parser.specs.StepLimits.{TakesMoreSteps}
 use Rattle.peg_parser.specs.declared.parser.ParseFault.{ParseFault}
 use Rattle.peg_parser.specs.declared.parser.ParseFault.TheVariants as parse
-use Rattle.peg_io.specs.NamedFile.{NamedFile, bytes_of}
+use Rattle.peg_io.specs.NamedFile.{Missing, NamedFile, bytes_of}
 use Rattle.peg_semantics.specs.Record.{Recognition, Record}
 use Rattle.peg_semantics.specs.Record as recognition
 use Rattle.peg_semantics.specs.Rules.{Rule}
@@ -106,6 +110,31 @@ text-covered rules start settings known text before after (Err parse.StepLimit) 
 )
 text-covered rules start settings known text before after (Err parse.Memory) read long covered same limited enough = tt
 
+-- a text whose parse doesn't refuse it is there, and isn't too long
+pub text-parsable : (rules : List Rule) (text : List ℕ) (named : Option (List ℕ)) (file : NamedFile)
+    (covered : Result TextMatch ParseFault) → file ≢ Missing → IsReadOf (bytes_of file) text
+    → HasParseFaults rules text named covered → OnOk (end_of_parse covered) (IsParsable file)
+text-parsable rules text named file covered present read faults = by covered refl
+  where
+    allowed : ¬ (covered ≡ Err parse.NoSuchStart) → ¬ (covered ≡ Err parse.TextTooLong) → IsParsable file
+    allowed known short =
+        let from = some-of (start_name rules named) (λ none. known (faults.no_start.1 none)) in
+        let within : length text ≤ max_text_bytes = elim (cases_lt max_text_bytes (length text)) [
+          | inl over ↦ absurd (short ((faults.long from.0 from.1).1 over))
+          | inr within ↦ within
+        ] in (
+          present,
+          of-known (bytes_of file) text (λ bytes. length bytes ≤ max_text_bytes) (read.whole within) within,
+        )
+
+    by : (found : Result TextMatch ParseFault) → covered ≡ found → OnOk (end_of_parse found) (IsParsable file)
+    by (Ok found.Matched) is = allowed (λ bad. cc) (λ bad. cc)
+    by (Ok found.Failed) is = allowed (λ bad. cc) (λ bad. cc)
+    by (Err parse.NoSuchStart) is = tt
+    by (Err parse.TextTooLong) is = tt
+    by (Err parse.StepLimit) is = allowed (λ bad. cc) (λ bad. cc)
+    by (Err parse.Memory) is = tt
+
 -- a result that is a fault
 pub refused-by : {X : Type 0} (result : Result X CoveringFault) (why : CoveringFault) (Is : CoveringFault → Type 0)
     → IsErrAnd result (λ fault. fault ≡ why) → Is why → IfErr result Is
@@ -138,28 +167,43 @@ files-count file_at names i within =
       length-map (map string_bytes (take i names)) file_at,
     )
 
--- what is true of one name is true of some name
-any-name : (P : List ℕ → Type 0) (names : List (String Global)) (i : ℕ) (name : String Global) → i < length names
-    → name ≡ get_or names i name → P (string_bytes name) → Any P (map string_bytes names)
-any-name P names i name within is p = (
-  i,
-  string_bytes name,
-  omega (arith, within, length-map names string_bytes),
-  get_or-map string_bytes names i name (string_bytes name) within ∙ ap string_bytes (sym is),
-  p,
-)
+-- the name after the first ones
+first-name : (IsBefore Is : List ℕ → Type 0) (names : List (String Global)) (i : ℕ) (name : String Global)
+    → i < length names → name ≡ get_or names i name → All IsBefore (map string_bytes (take i names))
+    → Is (string_bytes name) → IsFirst IsBefore Is (map string_bytes names)
+first-name IsBefore Is names i name within is before p = record {
+  index = i;
+  element = string_bytes name;
+  here = slice_get-map string_bytes names i ∙ ap (option_map string_bytes) (slice_get-get_or names i name within
+      ∙ ap Some (sym is));
+  before = subst (All IsBefore) (sym (take-map string_bytes i names)) before;
+  is = p;
+}
 
--- a fault of one text is a fault of some text
+-- a fault of the first text that has one is a fault of the texts
 pub file-fault : (rules : List Rule) (named : Option (List ℕ)) (file_at : List ℕ → NamedFile) (names : List (String Global))
     (i : ℕ) (name : String Global) (fault : CoveringFault) → i < length names → name ≡ get_or names i name
+    → All (λ (n : List ℕ). IsParsable (file_at n)) (map string_bytes (take i names))
     → IsFaultOfText rules file_at (string_bytes name) named fault
     → IsFaultOf rules file_at (map string_bytes names) named fault
-file-fault rules named file_at names i name (covering.File of kind) within is fault =
-    any-name (λ n. IsFaultOfText rules file_at n named (covering.File of kind)) names i name within is fault
-file-fault rules named file_at names i name covering.NoSuchStart within is fault = fault
-file-fault rules named file_at names i name covering.TextTooLong within is fault =
-    any-name (λ n. IsFaultOfText rules file_at n named covering.TextTooLong) names i name within is fault
-file-fault rules named file_at names i name covering.Memory within is fault = tt
+file-fault rules named file_at names i name (covering.File of kind) within is before fault =
+    first-name (λ n. IsParsable (file_at n)) (λ n. IsFaultOfText rules file_at n named (covering.File of kind)) names i name
+    within is before fault
+file-fault rules named file_at names i name covering.NoSuchStart within is before fault = fault
+file-fault rules named file_at names i name covering.TextTooLong within is before fault =
+    first-name (λ n. IsParsable (file_at n)) (λ n. IsFaultOfText rules file_at n named covering.TextTooLong) names i name
+    within is before fault
+file-fault rules named file_at names i name covering.Memory within is before fault = tt
+
+-- what is true of the first names and of the next one
+pub names-more : (P : List ℕ → Type 0) (names : List (String Global)) (i : ℕ) (name : String Global) → i < length names
+    → name ≡ get_or names i name → All P (map string_bytes (take i names)) → P (string_bytes name)
+    → All P (map string_bytes (take (i + 1) names))
+names-more P names i name within is all one =
+    let more = ap (map string_bytes) (ap (λ (n : ℕ). take n names) (add-one i) ∙ take-suc names i name within)
+    ∙ map-append string_bytes (take i names) (get_or names i name ∷ [])
+    ∙ ap (λ (n : String Global). map string_bytes (take i names) ++ string_bytes n ∷ []) (sym is) in
+    subst (All P) (sym more) (All-push P (map string_bytes (take i names)) (string_bytes name) all one)
 
 -- what is true of the files so far and of the next one
 pub all-more : (P : NamedFile → Type 0) (file_at : List ℕ → NamedFile) (names : List (String Global)) (i : ℕ)

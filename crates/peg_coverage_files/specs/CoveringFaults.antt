@@ -1,15 +1,27 @@
 -- Why it isn't known what texts use.
-use Rattle.std.specs.Prelude.{◌≡◌, ℕ, ◌<◌, Any, false, IfSome, List, None, Option, length}
+use Rattle.std.specs.Prelude.{◌≡◌, ◌≢◌, ℕ, ◌<◌, ◌≤◌, All, false, IfSome, List, None, Option, Some, length, slice_get, take}
 use Rattle.peg_grammar.specs.Limits.{max_text_bytes}
-use Rattle.peg_io.specs.NamedFile.{NamedFile, bytes_of, is_readable}
+use Rattle.peg_io.specs.NamedFile.{Missing, NamedFile, bytes_of, is_readable}
 use Rattle.peg_semantics.specs.Rules.{Rule}
 use Rattle.peg_semantics.specs.Starts.{start_name}
 use Rattle.peg_coverage_files.specs.declared.fault.CoveringFault.{CoveringFault}
 use Rattle.peg_coverage_files.specs.declared.fault.CoveringFault.TheVariants.{File, NoSuchStart, TextTooLong, Memory}
 
--- the text in a file is too long, if its bytes are specified
+-- the text in a file is there, and it is too long if its bytes are specified
 abbrev pub IsTooLong : NamedFile → Type 0
-IsTooLong file = IfSome (bytes_of file) (λ text. max_text_bytes < length text)
+IsTooLong file = (file ≢ Missing) × IfSome (bytes_of file) (λ text. max_text_bytes < length text)
+
+-- the text in a file is there, and it isn't too long if its bytes are specified
+abbrev pub IsParsable : NamedFile → Type 0
+IsParsable file = (file ≢ Missing) × IfSome (bytes_of file) (λ text. length text ≤ max_text_bytes)
+
+-- an element of a list has a property, and all before it have another one
+pub record IsFirst {X : Type 0} (IsBefore Is : X → Type 0) (elements : List X) : Type 0 where
+  pub index : ℕ
+  pub element : X
+  pub here : slice_get elements index ≡ Some element
+  pub before : All IsBefore (take index elements)
+  pub is : Is element
 
 -- Whether a fault is true of the text in the file with a name. A file fault has this name, and the file isn't specified to
 -- be readable. If its bytes aren't specified, little is known. A failed allocation is possible for any text.
@@ -20,10 +32,12 @@ IsFaultOfText rules file_at name start NoSuchStart = start_name rules start ≡ 
 IsFaultOfText rules file_at name start TextTooLong = IsTooLong (file_at name)
 IsFaultOfText rules file_at name start Memory = Unit {0}
 
--- Whether a fault is true of the texts in the files with these names: of one of them, or of the start.
+-- Whether a fault is true of the texts in the files with these names: of the first one that has a fault, or of the
+-- start.
 abbrev pub IsFaultOf : List Rule → (file_at : List ℕ → NamedFile) → (names : List (List ℕ)) → (start : Option (List ℕ))
     → CoveringFault → Type 0
 IsFaultOf rules file_at names start NoSuchStart = start_name rules start ≡ None
 IsFaultOf rules file_at names start Memory = Unit {0}
 IsFaultOf rules file_at names start fault =
-    Any (λ (name : List ℕ). IsFaultOfText rules file_at name start fault) names
+    IsFirst (λ (name : List ℕ). IsParsable (file_at name))
+    (λ (name : List ℕ). IsFaultOfText rules file_at name start fault) names

@@ -9,7 +9,7 @@ ghost use Rattle.peg_coverage.specs.Covered.{HaveCovered, settings_of};
 ghost use Rattle.peg_coverage.specs.CoverageParser.{IsCoverageParserOf, rule_count};
 ghost use Rattle.peg_coverage.specs.Unused.{IsCoverageOf};
 ghost use Rattle.peg_coverage_files.specs.CoveredTexts.{HasCoveredText};
-ghost use Rattle.peg_coverage_files.specs.CoveringFaults.{IsFaultOf, IsFaultOfText};
+ghost use Rattle.peg_coverage_files.specs.CoveringFaults.{IsFaultOf, IsFaultOfText, IsParsable};
 ghost use Rattle.peg_coverage_files.specs.NamedTexts.{files_named, texts_in};
 ghost use Rattle.peg_coverage_files.specs.TextEnds.{end_of_parse};
 
@@ -115,6 +115,8 @@ fn cover_text<'a, O: Opener>(
     ensures refused { (rules : List Rule) → IsCoverageParserOf rules parser.now
         → IfErr result (IsFaultOfText rules (O.file_at files.now) name.now (start_named options.now)) }
     ensures present { OnOk result (O.file_at files.now name.now ≢ Missing) }
+    ensures parsable { (rules : List Rule) → IsCoverageParserOf rules parser.now
+        → OnOk result (IsParsable (O.file_at files.now name.now)) }
 {
     let text = read_text(alloc, files, name)?;
     to_end(parser.cover(alloc, &text, options, used))

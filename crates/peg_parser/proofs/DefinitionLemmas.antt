@@ -1,5 +1,5 @@
 -- The definitions of a refused grammar are those of its file.
-use Rattle.std.proofs.Common.{◌≡◌, ℕ, List, [], ◌∷◌, IfErr, IsErrAnd, Result, Ok, Err, ap, map, refl, subst, sym}
+use Rattle.std.proofs.Common.{◌≡◌, ◌∙◌, inl, inr, ℕ, List, [], ◌∷◌, IfErr, IsErrAnd, Result, Ok, Err, ap, map, refl, subst, sym}
 use Rattle.peg_check.specs.declared.fault.CheckFault.{CheckFault}
 use Rattle.peg_check.specs.declared.fault.CheckFault.TheVariants as check
 use Rattle.peg_code.specs.declared.fault.CodeFault.{CodeFault}
@@ -14,7 +14,7 @@ use Rattle.peg_semantics.specs.CutCounts.{cut_rules}
 use Rattle.peg_semantics.specs.Form.{Reference}
 use Rattle.peg_semantics.specs.Rules.{Rule, defined_at}
 use Rattle.peg_parser.specs.Accepts.{IsRead}
-use Rattle.peg_parser.specs.Faults.{HasDefinitionsOf, from_check, of_code, of_grammar, of_notation}
+use Rattle.peg_parser.specs.Faults.{AreSameOrCut, HasDefinitionsOf, from_check, of_code, of_grammar, of_notation}
 use Rattle.peg_parser.specs.declared.refusal.Refusal.{Refusal}
 use Rattle.peg_parser.specs.declared.refusal.Refusal.TheVariants as refusal
 
@@ -22,6 +22,11 @@ use Rattle.peg_parser.specs.declared.refusal.Refusal.TheVariants as refusal
 pub definitions-cut : (rules : List Rule) → map defined_at (cut_rules rules) ≡ map defined_at rules
 definitions-cut [] = refl
 definitions-cut (rule ∷ rules) = ap (λ (l : List Reference). defined_at rule ∷ l) (definitions-cut rules)
+
+-- the grammar of a refusal has the definitions of the file
+pub defined-as : (rules found : List Rule) → AreSameOrCut rules found → map defined_at found ≡ map defined_at rules
+defined-as rules found (inl same) = ap (map defined_at) same
+defined-as rules found (inr cut) = ap (map defined_at) cut.1 ∙ definitions-cut rules
 
 -- refusals of these kinds have no grammar
 pub notation-defined : (file : List ℕ) (why : NotationFault) → HasDefinitionsOf file (of_notation why)
@@ -43,9 +48,9 @@ pub code-defined : (file : List ℕ) (why : CodeFault) → HasDefinitionsOf file
 code-defined file code.CodeTooLarge = tt
 code-defined file code.Memory = tt
 
--- a fault of the check, for a grammar with the definitions of the file's rules
+-- a fault of the check, for the grammar of a file
 pub check-defined : (file : List ℕ) (rules : List Rule) (grammar : Grammar) (why : CheckFault) → IsRead file rules
-    → map defined_at (rules_in grammar) ≡ map defined_at rules → HasDefinitionsOf file (from_check why grammar)
+    → AreSameOrCut rules (rules_in grammar) → HasDefinitionsOf file (from_check why grammar)
 check-defined file rules grammar (check.EmptyLoop number span) read same = (rules, read, same)
 check-defined file rules grammar (check.LeftRecursion path) read same = (rules, read, same)
 check-defined file rules grammar check.Memory read same = tt

@@ -2,7 +2,7 @@ mod AcceptLemmas
 mod CheckLemmas
 mod CoreStarts
 mod CutLemmas
-mod DefinitionLemmas
+pub mod DefinitionLemmas
 mod FigureCode
 mod FigureGrammar
 mod FigureReading

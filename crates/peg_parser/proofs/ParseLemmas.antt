@@ -9,7 +9,6 @@ use Rattle.peg_grammar.specs.Limits.{max_text_bytes}
 use Rattle.peg_semantics.specs.Record.{RuleCall}
 use Rattle.peg_semantics.specs.Rules.{Rule, name_of}
 use Rattle.peg_semantics.specs.Starts.{start_name}
-use Rattle.peg_machine.specs.Accounts.{OwnSteps}
 use Rattle.peg_machine.specs.CoreOutcome.{saturated, TakesSteps}
 use Rattle.peg_machine.specs.RunContract.{IsRun}
 use Rattle.peg_machine.specs.declared.answer.Answer.{Answer}
@@ -24,7 +23,7 @@ use Rattle.peg_parser.specs.declared.parser.ParseFault.TheVariants.{NoSuchStart,
 use Rattle.peg_parser.specs.declared.parser.Parser.{Parser}
 use Rattle.peg_parser.proofs.CoreStarts.{parser-outcome, same-bodies}
 use Rattle.peg_parser.proofs.StepLemmas.{of-program, of-start, plain-steps, to-program, to-start}
-use Rattle.peg_parser.proofs.TraceLemmas.{answer-fits, parser-calls}
+use Rattle.peg_parser.proofs.TraceLemmas.{answer-fits, parser-calls, parser-steps}
 
 -- ---- results
 
@@ -113,10 +112,7 @@ module _ (among : Option (List ℕ)) (parser : Parser) (text : List ℕ) (start 
       let traced = is.traced.2 in record {
         calls = is.traced.0;
         of_record = parser-calls among parser text start answer.outcome is.traced.0 bytes less is.outcome traced.visited;
-        own = traced.own;
-        own_steps = subst (λ (bodies : List CoreForm). OwnSteps bodies text is.traced.0 traced.own) (same-bodies parser)
-            traced.own_steps;
-        steps = traced.steps;
+        steps = parser-steps parser text start capacity allocation_failed answer is.traced.0 traced;
       }
 
   steps_of_run : (result : Result Answer RunFault) → AreBytes text

@@ -1,5 +1,5 @@
 -- The calls that a run shows are those of Ford's record of the grammar as written, and its outcome fits the grammar.
-use Rattle.std.proofs.Common.{◌≡◌, ◌↔◌, ℕ, ◌<◌, List, Contains, IfOk, Result, Ok, Err, Option, None, Some, length, ap, ◌∙◌, refl, subst, sym}
+use Rattle.std.proofs.Common.{◌≡◌, ◌↔◌, ℕ, ◌<◌, Bool, List, Contains, IfOk, Result, Ok, Err, Option, None, Some, length, ap, ◌∙◌, refl, subst, sym}
 use Rattle.peg_bytes.specs.Extent.{between}
 use Rattle.peg_core.specs.CoreForm.{CoreForm, core_bodies, core_form}
 use Rattle.peg_core.specs.CoreForm.{Rule as use_of}
@@ -11,12 +11,13 @@ use Rattle.peg_semantics.specs.Form.{Name}
 use Rattle.peg_semantics.specs.Record.{Record, RuleCall}
 use Rattle.peg_semantics.specs.Rules.{Rule, name_of}
 use Rattle.peg_semantics.specs.Starts.{Recognizes}
+use Rattle.peg_machine.specs.Accounts.{OwnSteps}
 use Rattle.peg_machine.specs.SelectedTests.{IsCoreOutcomeBy}
-use Rattle.peg_machine.specs.Traced.{HasTracedFirst, HasTracedSoFar, IsVisited, OwnStepsExceed, TracesInOrder}
+use Rattle.peg_machine.specs.Traced.{HasTraced, HasTracedFirst, HasTracedSoFar, IsVisited, OwnStepsExceed, TracesInOrder}
 use Rattle.peg_machine.specs.declared.fault.RunFault.TheVariants.{StepLimit}
 use Rattle.peg_tree.specs.declared.outcome.Outcome.{Outcome}
 use Rattle.peg_machine.specs.declared.answer.Answer.{Answer}
-use Rattle.peg_parser.specs.Calls.{AreCallsOf, AreCallsSoFar, AreFirstCalls, TracesCallsInOrder}
+use Rattle.peg_parser.specs.Calls.{AreCallsOf, AreCallsSoFar, AreFirstCalls, AreStepsOf, TracesCallsInOrder}
 use Rattle.peg_parser.specs.SelectedOutcomes.{FitsBy, IsParseOutcomeBy}
 use Rattle.peg_parser.specs.declared.parser.ParseFault.{ParseFault}
 use Rattle.peg_parser.specs.Parser.{parser_rules}
@@ -58,6 +59,17 @@ parser-calls among parser text start outcome calls bytes less is visited =
     (held.0, ap (λ (rule : ℕ). core_record_in (core_bodies rules) text held.0 (use_of rule) 0) (number-named parser start less) ∙ held.1.1) in
     written-calls rules text start r calls bytes named (held.0, held.1.1)
     (subst (λ (bodies : List CoreForm). AreVisitedCalls bodies text start calls) (same-bodies parser) visited)
+
+-- the steps of a run's answer are those of the bodies of its calls
+pub parser-steps : (parser : Parser) (text : List ℕ) (start capacity : ℕ) (allocation_failed : Bool) (answer : Answer)
+    (calls : List RuleCall)
+    → HasTraced (bodies_of parser.program.core) text start capacity allocation_failed answer calls
+    → AreStepsOf (parser_rules parser) text calls answer.outcome.result answer.steps
+parser-steps parser text start capacity allocation_failed answer calls traced = (
+  traced.own,
+  subst (λ (bodies : List CoreForm). OwnSteps bodies text calls traced.own) (same-bodies parser) traced.own_steps,
+  traced.steps,
+)
 
 -- the record of a rule on core forms is Ford's record from the rule's name
 recognized : (parser : Parser) (text : List ℕ) (start n : ℕ) (r : Record) → AreBytes text

@@ -8,6 +8,7 @@ use Rattle.peg_machine.specs.declared.answer.Answer.{Answer}
 use Rattle.peg_semantics.specs.Record.{Record, RuleCall}
 use Rattle.peg_semantics.specs.Rules.{Rule}
 use Rattle.peg_semantics.specs.Starts.{Recognizes}
+use Rattle.peg_tree.specs.declared.outcome.Parsed.{Parsed}
 
 -- The calls are, as a set, those of Ford's record of a text from the start rule with this name. Calls in abandoned
 -- alternatives and in predicates count too.
@@ -44,10 +45,6 @@ pub record AreCallsSoFar (rules : List Rule) (text start : List ℕ) (max_steps 
 abbrev pub TracesCallsInOrder : List Rule → List ℕ → (start : List ℕ) → (gets : List RuleCall → Type 0) → Type 0
 TracesCallsInOrder rules text start gets = (r : Record) × Recognizes rules text start r × gets r.calls
 
--- a tracer got calls of the record, and each of them
-abbrev pub TracesCallsOf : List Rule → List ℕ → (start : List ℕ) → (gets : List RuleCall → Type 0) → Type 0
-TracesCallsOf rules text start gets = (calls : List RuleCall) × gets calls × AreCallsOf rules text start calls
-
 -- A parse that met its step limit had shown a tracer some calls of the record, and without a memo the first ones, in
 -- order.
 abbrev pub TracesCallsSoFar : List Rule → List ℕ → (start : List ℕ) → (memo : ℕ) → (max_steps : Option ℕ)
@@ -56,11 +53,19 @@ TracesCallsSoFar rules text start memo max_steps gets =
     (calls : List RuleCall) × gets calls × AreCallsSoFar rules text start max_steps calls
     × (memo ≡ 0 → AreFirstCalls rules text start calls)
 
+-- The steps are the own steps of the bodies of calls, and one more for the end of a match.
+abbrev pub AreStepsOf : List Rule → List ℕ → List RuleCall → Parsed → (steps : ℕ) → Type 0
+AreStepsOf rules text calls result steps =
+    (own : ℕ) × OwnSteps (core_bodies rules) text calls own × (steps ≡ saturated (own + end_of_run result))
+
 -- The steps of an answer are those of the bodies of some calls, and one more for the end of a match. The calls are, as a
 -- set, those of Ford's record of a text from the start rule with this name.
 pub record IsSumOfSteps (rules : List Rule) (text start : List ℕ) (answer : Answer) : Type 0 where
   pub calls : List RuleCall
   pub of_record : AreCallsOf rules text start calls
-  pub own : ℕ
-  pub own_steps : OwnSteps (core_bodies rules) text calls own
-  pub steps : answer.steps ≡ saturated (own + end_of_run answer.outcome.result)
+  pub steps : AreStepsOf rules text calls answer.outcome.result answer.steps
+
+-- A tracer got these calls. So the calls shown are, as a set, those of the record, and the steps of the answer are those
+-- of their bodies, each as often as it was shown.
+abbrev pub TracesCallsOf : List Rule → List ℕ → (start : List ℕ) → Answer → (gets : List RuleCall → Type 0) → Type 0
+TracesCallsOf rules text start answer gets = (sum : IsSumOfSteps rules text start answer) × gets sum.calls

@@ -1,13 +1,15 @@
 -- Describes code: the causes that the faults of the stages denote, with names in place of rule numbers, and their
 -- offsets.
-use Rattle.std.specs.Prelude.{◌≡◌, ℕ, ◌≤◌, List, [], length, Option, None, Some, IfSome, map, string_bytes}
+use Rattle.std.specs.Prelude.{◌≡◌, ◌⊎◌, ℕ, ◌<◌, ◌≤◌, List, [], length, Option, None, Some, IfSome, map, string_bytes}
 use Rattle.peg_bytes.specs.Extent.{extent}
 use Rattle.peg_check.specs.Verdicts.{NamesRules}
 use Rattle.peg_check.specs.declared.fault.CheckFault.{CheckFault}
 use Rattle.peg_check.specs.declared.fault.CheckFault.TheVariants as check
 use Rattle.peg_code.specs.declared.fault.CodeFault.{CodeFault}
 use Rattle.peg_code.specs.declared.fault.CodeFault.TheVariants as code
-use Rattle.peg_semantics.specs.Rules.{Rule, defined_at, names}
+use Rattle.peg_code.specs.Compiled.{max_instructions}
+use Rattle.peg_semantics.specs.CutCounts.{cut_rules}
+use Rattle.peg_semantics.specs.Rules.{Rule, names}
 use Rattle.peg_grammar.specs.GrammarRules.{rules_in}
 use Rattle.peg_grammar.specs.declared.fault.GrammarFault.{GrammarFault}
 use Rattle.peg_grammar.specs.declared.fault.GrammarFault.TheVariants as grammar
@@ -16,7 +18,7 @@ use Rattle.peg_notation.specs.declared.fault.NotationFault.{NotationFault}
 use Rattle.peg_notation.specs.declared.fault.NotationFault.TheVariants as notation
 use Rattle.peg_tree.specs.Names.{name_at}
 use Rattle.peg_parser.specs.Cause.{Cause, FileTooLong, Syntax, TooNested, BadCount, NoRule, Duplicate, Undefined}
-use Rattle.peg_parser.specs.Accepts.{IsRead}
+use Rattle.peg_parser.specs.Accepts.{IsRead, code_size}
 use Rattle.peg_parser.specs.Cause.{TooManyParts, EmptyLoop, LeftRecursion, CodeTooLarge, reference}
 use Rattle.peg_parser.specs.Refusals.{RefusalImplies}
 use Rattle.peg_parser.specs.declared.refusal.Refusal.{Refusal}
@@ -108,11 +110,15 @@ pub data HasCause (Kind : Cause → Type 0) (size : ℕ) (why : Refusal) : Type 
 abbrev pub IsTrueRefusal : (size : ℕ) → Refusal → Type 0
 IsTrueRefusal size why = HasCause (λ cause. Unit {0}) size why
 
--- The rules of a refusal, if it has a grammar, are defined where those of the file are: they have the same names and spans
--- in the same order. Their counts may be cut.
+-- rules, or the same with cut counts if their code is too large
+abbrev pub AreSameOrCut : (rules found : List Rule) → Type 0
+AreSameOrCut rules found =
+    (found ≡ rules) ⊎ ((max_instructions < code_size rules) × (found ≡ cut_rules rules))
+
+-- The grammar of a refusal, if it has one, is the file's. If its code is too large, its counts are cut.
 abbrev pub HasDefinitionsOf : List ℕ → Refusal → Type 0
 HasDefinitionsOf file (refusal.NotWellFormed why grammar) = (rules : List Rule) × IsRead file rules
-    × (map defined_at (rules_in grammar) ≡ map defined_at rules)
+    × AreSameOrCut rules (rules_in grammar)
 HasDefinitionsOf file other = Unit {0}
 
 -- what a refusal implies about the file

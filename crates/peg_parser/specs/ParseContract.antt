@@ -35,7 +35,7 @@ pub record HasParseSteps (rules : List Rule) (text : List ℕ) (named : Option (
   pub plain : IfOk result (λ answer. (count : ℕ) × TakesPlainSteps rules text named count × (answer.steps ≤ count))
   pub exact : is_plain → IfOk result (λ answer. (count : ℕ) × TakesPlainSteps rules text named count
       × (answer.steps ≡ saturated count))
-  -- with a memo, too, they are the steps of the calls that were made
+  -- with a memo, too, they are the steps of a list of calls, which as a set are those of the record
   pub own : IfOk result (λ answer. IfSome (start_name rules named) (λ start. IsSumOfSteps rules text start answer))
 
 -- The result of a parse from a start. `among` has the terminals whose failures count, or is `None` for all.

@@ -275,7 +275,8 @@ impl Parser {
 
     /// Parses as `parse` does, but in one run, and shows the tracer each call whose body runs. Without a memo these are
     /// the calls of Ford's record of the text, in order, each as often as it is made (Ford 2004, section 3.3). With one
-    /// they are these calls as a set, whatever the memo answers.
+    /// they are these calls as a set, whatever the memo answers. The steps of the answer are the steps of these bodies,
+    /// and one more for the end of a match.
     ///
     /// The errors are those of `parse`. After `NoSuchStart` and `TextTooLong` the tracer is as it was. After
     /// `StepLimit` it has been shown the calls made so far: some of these calls, and without a memo the first of them.
@@ -298,8 +299,8 @@ impl Parser {
     ) -> Result<Answer, ParseFault>
         ensures parse { IsParse None (parser_rules self.now) text.now (start_named options.now)
             (options.now.memo ≡ 0) options.now.steps result }
-        ensures traced { OnOk result (IfSome (start_name (parser_rules self.now) (start_named options.now))
-            (λ start. TracesCallsOf (parser_rules self.now) text.now start
+        ensures traced { IfOk result (λ answer. IfSome (start_name (parser_rules self.now) (start_named options.now))
+            (λ start. TracesCallsOf (parser_rules self.now) text.now start answer
             (GetsCalls W.records W.traced watch.old watch.new))) }
         ensures in_order { options.now.memo ≡ 0
             → OnOk result (IfSome (start_name (parser_rules self.now) (start_named options.now))
@@ -343,8 +344,8 @@ impl Parser {
         ensures parse { (named : Option (List ℕ))
             → start_name (parser_rules self.now) named ≡ Some (name_of (parser_rules self.now) start)
             → IsParse (listed among.entry) (parser_rules self.now) text.now named ⊥ max_steps result }
-        ensures traced { OnOk result (TracesCallsOf (parser_rules self.now) text.now
-            (name_of (parser_rules self.now) start) (GetsCalls W.records W.traced watch.old watch.new)) }
+        ensures traced { IfOk result (λ answer. TracesCallsOf (parser_rules self.now) text.now
+            (name_of (parser_rules self.now) start) answer (GetsCalls W.records W.traced watch.old watch.new)) }
         ensures stopped { IsErrOf result ParseFault.StepLimit → (calls : List RuleCall)
             × GetsCalls W.records W.traced watch.old watch.new calls
             × AreCallsSoFar (parser_rules self.now) text.now (name_of (parser_rules self.now) start) max_steps calls }
@@ -368,8 +369,8 @@ impl Parser {
         ensures parse { (named : Option (List ℕ))
             → start_name (parser_rules self.now) named ≡ Some (name_of (parser_rules self.now) start)
             → IsParse (listed among.entry) (parser_rules self.now) text.now named ⊤ max_steps result }
-        ensures traced { OnOk result (TracesCallsOf (parser_rules self.now) text.now
-            (name_of (parser_rules self.now) start) (GetsCalls W.records W.traced watch.old watch.new)) }
+        ensures traced { IfOk result (λ answer. TracesCallsOf (parser_rules self.now) text.now
+            (name_of (parser_rules self.now) start) answer (GetsCalls W.records W.traced watch.old watch.new)) }
         ensures in_order { OnOk result (TracesCallsInOrder
             (parser_rules self.now) text.now (name_of (parser_rules self.now) start)
             (GetsCalls W.records W.traced watch.old watch.new)) }
@@ -402,8 +403,8 @@ impl Parser {
             → start_name (parser_rules self.now) named ≡ Some (name_of (parser_rules self.now) start)
             → IsParse (listed among.entry) (parser_rules self.now) text.now named
             (NeverStores (λ (any : S). (S.state any).memo.entries)) max_steps result }
-        ensures traced { OnOk result (TracesCallsOf (parser_rules self.now) text.now
-            (name_of (parser_rules self.now) start) (GetsCalls W.records W.traced watch.old watch.new)) }
+        ensures traced { IfOk result (λ answer. TracesCallsOf (parser_rules self.now) text.now
+            (name_of (parser_rules self.now) start) answer (GetsCalls W.records W.traced watch.old watch.new)) }
         ensures stopped { IsErrOf result ParseFault.StepLimit → (calls : List RuleCall)
             × GetsCalls W.records W.traced watch.old watch.new calls
             × AreCallsSoFar (parser_rules self.now) text.now (name_of (parser_rules self.now) start) max_steps calls }

@@ -10,6 +10,7 @@ use Rattle.std.proofs.lemmas.List.Kept.{Contains-dedup_nat, Contains-from_dedup}
 use Rattle.std.proofs.lemmas.List.Sorted.{Contains-permutation}
 use Rattle.std.proofs.Math.Dec.{eqb}
 use Rattle.peg_machine.specs.Traced.{GetsCalls}
+use Rattle.peg_machine.specs.declared.answer.Answer.{Answer}
 use Rattle.peg_semantics.specs.Record.{RuleCall}
 use Rattle.peg_semantics.specs.Rules.{Rule}
 use Rattle.peg_parser.specs.Calls.{TracesCallsInOrder, TracesCallsOf, TracesCallsSoFar}
@@ -58,21 +59,27 @@ module _ (rules : List Rule) (text : List ℕ) (memo : ℕ) (old new : CallCount
     (begun : HasCounted old [])
     (right : (calls : List RuleCall) → HasCounted new calls → AreProfilesOf (length rules) calls profiles) where
   -- the profiles of the calls that a tracer got
-  pub ended-profiles : (name : Option (List ℕ))
-      → IfSome name (λ start. TracesCallsOf rules text start (GetsCalls true HasCounted old new))
+  pub ended-profiles : (name : Option (List ℕ)) (answer : Answer)
+      → IfSome name (λ start. TracesCallsOf rules text start answer (GetsCalls true HasCounted old new))
       → (memo ≡ 0 → IfSome name (λ start. TracesCallsInOrder rules text start (GetsCalls true HasCounted old new)))
-      → IfSome name (λ start. AreProfilesOfParse rules text start memo profiles)
-  ended-profiles None traced ordered = tt
-  ended-profiles (Some start) traced ordered = elim (cases_eq memo 0) [
+      → IfSome name (λ start. AreProfilesOfParse rules text start memo answer.outcome.result answer.steps profiles)
+  ended-profiles None answer traced ordered = tt
+  ended-profiles (Some start) answer traced ordered = elim (cases_eq memo 0) [
     | inl none ↦
         let all = ordered none in (
           all.0.calls,
           (all.0, all.1, λ call. ((λ has. has), λ has. has)),
           (λ _. (all.0, all.1, refl)),
+          (λ some. absurd (some none)),
           right all.0.calls (all.2 refl [] begun),
         )
-    | inr some ↦
-        (traced.0, traced.2, (λ none. absurd (some none)), right traced.0 (traced.1 refl [] begun))
+    | inr some ↦ (
+      traced.0.calls,
+      traced.0.of_record,
+      (λ none. absurd (some none)),
+      (λ _. traced.0.steps),
+      right traced.0.calls (traced.1 refl [] begun),
+    )
   ]
 
   -- the profiles of the calls that it got before the limit

@@ -29,7 +29,8 @@ impl Profile {
     /// Parses a prefix of a text as `Parser::parse` does, but in one run. Counts the calls of each rule whose bodies ran.
     ///
     /// The positions of a rule's calls are those of its calls in Ford's record of the text (Ford 2004, section 3.3), whatever
-    /// the memo. Without a memo the calls are those of the record, each counted as often as it is made. A body that runs
+    /// the memo. Without a memo the calls are those of the record, each counted as often as it is made. With a memo the
+    /// steps of the parse are those of the bodies that are counted, and one more for the end of a match. A body that runs
     /// again at a position is work that a memo can save (Ford 2002).
     ///
     /// If the parse takes more steps than the limit allows, it is stopped there, and the profile has the calls made so
@@ -62,7 +63,8 @@ impl Profile {
             (λ start. IsParseOutcome (parser_rules parser.now) text.now start answer.outcome))) }
         ensures rules { IfOk result (λ profile. IfSome profile.answer (λ answer.
             IfSome (start_name (parser_rules parser.now) (start_named options.now)) (λ start.
-            AreProfilesOfParse (parser_rules parser.now) text.now start options.now.memo profile.rules.items))) }
+            AreProfilesOfParse (parser_rules parser.now) text.now start options.now.memo answer.outcome.result
+            profile.steps profile.rules.items))) }
         ensures enough { options.now.memo ≡ 0 → IfOk result (λ profile. IfSome profile.answer (λ answer.
             ¬ TakesMoreSteps (parser_rules parser.now) text.now (start_named options.now) options.now.steps)) }
         ensures exact { options.now.memo ≡ 0 → IfOk result (λ profile. IfSome profile.answer (λ answer. (count : ℕ)

@@ -1,13 +1,22 @@
-use Rattle.std.proofs.Common.{IfOk, IfSome, List, Option, Result, ℕ, sym, subst}
+use Rattle.std.proofs.Common.{IfOk, IfSome, OnOk, List, Option, Result, ℕ, sym, subst}
 use Rattle.peg_coverage.specs.Covered.{HasCovered, settings_of}
 use Rattle.peg_coverage.specs.declared.coverage_parser.TextMatch.{TextMatch}
 use Rattle.peg_diagnostics.specs.Marked.{marked_rules}
 use Rattle.peg_io.specs.NamedFile.{bytes_of}
 use Rattle.peg_coverage_files.specs.CoveredTexts.{HasCoveredText, IsReadOf}
+use Rattle.peg_coverage_files.specs.CoveringFaults.{IsParsable}
+use Rattle.peg_parser.specs.Parser.{start_named}
 use Rattle.peg_coverage_files.specs.declared.counts.TextEnd.{TextEnd}
 use Rattle.peg_coverage_files.specs.declared.fault.CoveringFault.{CoveringFault}
-use Rattle.peg_coverage_files.proofs.CoveringLemmas.{text-covered}
+use Rattle.peg_coverage_files.proofs.CoveringLemmas.{text-covered, text-parsable}
 use Rattle.peg_coverage_files.proofs.covering.cover_text.Goals as goal
+
+pub returns-clause-parsable : goal.returns-clause-parsable
+returns-clause-parsable g c rules is =
+    let file = g.O.Opener.file_at c.args.files.now c.args.name.now in
+    subst (λ (r : Result TextEnd CoveringFault). OnOk r (IsParsable file)) (sym c.to_end.ensures)
+    (text-parsable rules c.deref.result.now (start_named c.args.options.now) file c.cover.result c.in_ok-text.ensures.present
+    (subst (IsReadOf (bytes_of file)) (sym c.deref.ensures.value) c.in_ok-text.ensures.read) (c.cover.ensures.faults rules is))
 
 pub returns-clause-covered : goal.returns-clause-covered
 returns-clause-covered g c rules start is at =

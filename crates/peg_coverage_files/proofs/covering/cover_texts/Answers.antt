@@ -3,12 +3,12 @@ use Rattle.std.specs.declared.alloc.Global.{Global}
 use Rattle.std.specs.declared.string.String.{String}
 use Rattle.peg_coverage.specs.Covered.{HaveCovered, settings_of}
 use Rattle.peg_coverage_files.specs.CoveredTexts.{HasCoveredText}
-use Rattle.peg_coverage_files.specs.CoveringFaults.{IsFaultOf, IsFaultOfText}
+use Rattle.peg_coverage_files.specs.CoveringFaults.{IsFaultOf, IsFaultOfText, IsParsable}
 use Rattle.peg_coverage_files.specs.NamedTexts.{files_named, texts_in}
 use Rattle.peg_diagnostics.specs.Marked.{marked_rules}
 use Rattle.peg_io.specs.NamedFile.{NamedFile, Missing, bytes_of}
 use Rattle.peg_parser.specs.Parser.{start_named}
-use Rattle.peg_coverage_files.proofs.CoveringLemmas.{all-more, all-names, covered-more, few-more, file-fault, files-count, files-more}
+use Rattle.peg_coverage_files.proofs.CoveringLemmas.{all-more, all-names, covered-more, few-more, file-fault, files-count, files-more, names-more}
 use Rattle.peg_coverage_files.proofs.CoveringLemmas.{refused-by}
 use Rattle.peg_coverage_files.proofs.covering.cover_texts.Goals as goal
 
@@ -20,7 +20,7 @@ returns-in_err-end-clause-refused g c rules is =
     let why = c.in_err-end.field-0.0 in
     refused-by c.from_residual.result why (IsFaultOf rules file_at (map string_bytes names) named) c.from_residual.ensures.1
     (file-fault rules named file_at names c.names.number c.index-names-number.result why c.names-test.true
-    c.index-names-number.is
+    c.index-names-number.is (c.names.invariant.parsable rules is)
     (subst (λ (name : List ℕ). IsFaultOfText rules file_at name named why) c.deref.ensures
     (c.in_err-end.ensures.refused rules is)))
 
@@ -52,6 +52,10 @@ names-preserved g c =
           c.in_ok-count.ensures.matched c.in_ok-count.ensures.stopped);
       present = all-more (λ (f : NamedFile). f ≢ Missing) file_at names i name c.names-test.true c.index-names-number.is
           c.names.invariant.present (subst (λ (n : List ℕ). file_at n ≢ Missing) c.deref.ensures covers.present);
+      parsable = λ rules is.
+          names-more (λ (n : List ℕ). IsParsable (file_at n)) names i name c.names-test.true c.index-names-number.is
+          (c.names.invariant.parsable rules is)
+          (subst (λ (n : List ℕ). IsParsable (file_at n)) c.deref.ensures (covers.parsable rules is));
     }
 
 pub returns-clause-covered : goal.returns-clause-covered

@@ -1,6 +1,7 @@
-use Rattle.std.proofs.Common.{◌≡◌, ◌≢◌, ◌≤◌, ℕ, All, List, Some, length, take}
+use Rattle.std.proofs.Common.{◌≡◌, ◌≢◌, ◌≤◌, ℕ, All, List, Some, length, map, string_bytes, take}
 use Rattle.peg_coverage.specs.CoverageParser.{IsCoverageParserOf}
 use Rattle.peg_coverage.specs.Covered.{HaveCovered, settings_of}
+use Rattle.peg_coverage_files.specs.CoveringFaults.{IsParsable}
 use Rattle.peg_coverage_files.specs.NamedTexts.{files_named, texts_in}
 use Rattle.peg_diagnostics.specs.Marked.{marked_rules}
 use Rattle.peg_io.specs.NamedFile.{NamedFile, Missing}
@@ -21,4 +22,7 @@ invariant-names g l =
           → HaveCovered (marked_rules rules) start (settings_of l.options) (texts_in files) l.initial.used l.used
           l.counts.matched l.counts.stopped.items;
       present : All (λ (file : NamedFile). file ≢ Missing) files;
+      parsable : (rules : List Rule) → IsCoverageParserOf rules l.parser
+          → All (λ (name : List ℕ). IsParsable (g.O.Opener.file_at l.files name))
+          (map string_bytes (take l.number l.names));
     }

@@ -1,4 +1,4 @@
-use Rattle.std.proofs.Common.{◌≡◌, ℕ, List, ap, length, map, subst, sym, ◌∙◌}
+use Rattle.std.proofs.Common.{◌≡◌, inr, ℕ, List, ap, length, subst, sym, ◌∙◌}
 use Rattle.peg_check.specs.FirstLoops.{NamesFirstLoop}
 use Rattle.peg_check.specs.LeastCycles.{NamesLeastCycle}
 use Rattle.peg_check.specs.Verdicts.{IsIllFormedBy, NamesRules}
@@ -6,7 +6,7 @@ use Rattle.peg_code.specs.declared.fault.CodeFault.TheVariants.{CodeTooLarge}
 use Rattle.peg_core.specs.CoreParts.{AreCoreFormsOf}
 use Rattle.peg_grammar.specs.GrammarRules.{rules_in}
 use Rattle.peg_semantics.specs.CutCounts.{cut_rules}
-use Rattle.peg_semantics.specs.Rules.{Rule, defined_at}
+use Rattle.peg_semantics.specs.Rules.{Rule}
 use Rattle.peg_semantics.specs.WellFormed.{IsWellFormedGrammar}
 use Rattle.peg_semantics.specs.WrittenLoops.{SpansNameLoops}
 use Rattle.peg_semantics.proofs.CutLoops.{names_loops-cut}
@@ -15,7 +15,7 @@ use Rattle.peg_parser.specs.Faults.{HasCause, HasDefinitionsOf}
 use Rattle.peg_parser.specs.Refusals.{IsRefusalOf}
 use Rattle.peg_parser.proofs.AcceptLemmas.{stated-code}
 use Rattle.peg_parser.proofs.CutLemmas.{stated-cut}
-use Rattle.peg_parser.proofs.DefinitionLemmas.{check-defined, definitions-cut}
+use Rattle.peg_parser.proofs.DefinitionLemmas.{check-defined}
 use Rattle.peg_parser.proofs.large_code.refusal_of_large_code.Goals as goal
 use Rattle.peg_parser.proofs.large_code.refusal_of_large_code.Goals.{In-Ok}
 
@@ -51,4 +51,4 @@ pub returns-in-Err-check-clause-definitions : goal.returns-in-Err-check-clause-d
 returns-in-Err-check-clause-definitions c file read =
     subst (HasDefinitionsOf file) (sym c.from_check.ensures)
     (check-defined file (rules_in c.args.grammar) c.with_cut_counts-grammar.result c.in-Err-check.fault read
-    (ap (map defined_at) c.with_cut_counts-grammar.ensures ∙ definitions-cut (rules_in c.args.grammar)))
+    (inr (c.requires, c.with_cut_counts-grammar.ensures)))

@@ -9,7 +9,7 @@ use Rattle.peg_machine.specs.RunContract.{IsRun, NeverStores}
 use Rattle.peg_machine.specs.Traced.{GetsCalls, Traces}
 use Rattle.peg_parser.proofs.CoreStarts.{length-bodies}
 use Rattle.peg_parser.proofs.ParseLemmas.{parse_of_run}
-use Rattle.peg_parser.proofs.TraceLemmas.{parser-calls, parser-calls-in-order, parser-calls-so-far, parser-first-calls}
+use Rattle.peg_parser.proofs.TraceLemmas.{parser-calls, parser-calls-in-order, parser-calls-so-far, parser-first-calls, parser-steps}
 use Rattle.peg_parser.proofs.parser.Parser.answer.Goals as goal
 
 pub run_in_store-requires-clause-rule : goal.run_in_store-requires-clause-rule
@@ -71,15 +71,21 @@ returns-in-Err-Memory-clause-parse g c named found =
 
 -- ---- the calls
 
--- the calls shown are those of Ford's record
+-- the calls shown are those of Ford's record, and the steps are those of their bodies
 pub returns-in-Ok-clause-traced : goal.returns-in-Ok-clause-traced
 returns-in-Ok-clause-traced g c =
     let traced = c.in-Ok.ensures.run.traced in (
-      traced.0,
+      record {
+        calls = traced.0;
+        of_record = parser-calls (listed c.args.among) c.args.self.now c.args.text.now c.args.start
+            c.in-Ok.answer.outcome traced.0
+            (All-from_get_or (λ byte. byte < 256) c.args.text.now 0 (λ i within. (c.type_inv.text i).fits))
+            c.requires.start c.in-Ok.ensures.run.outcome traced.2.visited;
+        steps = parser-steps c.args.self.now c.args.text.now c.args.start
+            (g.S.NodeStore.state c.args.store.now).memo.capacity
+            (g.S.NodeStore.state c.run_in_store.new.store).memo.allocation_failed c.in-Ok.answer traced.0 traced.2;
+      },
       traced.1,
-      parser-calls (listed c.args.among) c.args.self.now c.args.text.now c.args.start c.in-Ok.answer.outcome traced.0
-          (All-from_get_or (λ byte. byte < 256) c.args.text.now 0 (λ i within. (c.type_inv.text i).fits)) c.requires.start
-          c.in-Ok.ensures.run.outcome traced.2.visited,
     )
 
 -- without a memo they are the calls of Ford's record in order

@@ -1,4 +1,3 @@
-use Rattle.std.proofs.Common.{map, ap}
 use Rattle.std.specs.FinMap.{len-empty}
 use Rattle.peg_machine.specs.SelectedTests.{listed}
 use Rattle.peg_memo.specs.MemoKey.{key_cmp}

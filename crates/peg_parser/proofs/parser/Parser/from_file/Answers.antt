@@ -1,4 +1,4 @@
-use Rattle.std.proofs.Common.{ℕ, ◌<◌, ◌≤◌, ◌∙◌, All, Err, List, ap, length, refl, subst, sym}
+use Rattle.std.proofs.Common.{ℕ, inl, ◌<◌, ◌≤◌, ◌∙◌, All, Err, List, ap, length, refl, subst, sym}
 use Rattle.peg_check.specs.Verdicts.{NamesRules}
 use Rattle.peg_code.specs.Code.{program_code}
 use Rattle.peg_code.specs.Compiled.{max_instructions}
@@ -176,7 +176,8 @@ returns-in-Err-clause-definitions c =
     let file = c.args.file.now in
     let of_file = known (goal.at.returns-in-Err-clause-definitions c).In_ok-grammar in
     subst (HasDefinitionsOf file) (sym c.from_check.ensures)
-    (check-defined file (rules_in c.in_ok-grammar.grammar) c.in_ok-grammar.grammar c.in-Err.fault of_file.read refl)
+    (check-defined file (rules_in c.in_ok-grammar.grammar) c.in_ok-grammar.grammar c.in-Err.fault of_file.read
+    (inl refl))
 
 pub returns-in_err-program-in-Ok-clause-definitions : goal.returns-in_err-program-in-Ok-clause-definitions
 returns-in_err-program-in-Ok-clause-definitions c =

@@ -13,7 +13,7 @@ returns-in-Ok-clause-rules c =
     c.new-calls.ensures
     (λ calls has. subst (λ (count : ℕ). AreProfilesOf count calls profiles)
     (c.rules-count.ensures.count ∙ ap length c.grammar.ensures) (c.in_ok-rules-in-Ok.ensures calls has))
-    (start_name rules (start_named c.args.options.now)) c.in-Ok.ensures.traced c.in-Ok.ensures.in_order
+    (start_name rules (start_named c.args.options.now)) c.in-Ok.answer c.in-Ok.ensures.traced c.in-Ok.ensures.in_order
 
 pub returns-in-Err-StepLimit-clause-steps : goal.returns-in-Err-StepLimit-clause-steps
 returns-in-Err-StepLimit-clause-steps c =
