@@ -236,8 +236,9 @@ uint32_t peg_explain(peg_grammar *grammar, const uint8_t *name, size_t name_leng
 void peg_explanation_free(peg_explanation *explanation);
 
 /* Copies the message to `out`: `NAME:LINE:COLUMN: expected ITEMS, found CHARACTER`, the line of the text, and a caret.
- * Each line ends with LF; there is no final null byte. If the message is longer than `out_length`, only its start is
- * copied. Returns the length of the whole message, or 0 if the handle holds no explanation. */
+ * If the grammar is too large for an analysis of its items, a line with a note follows. Each line ends with LF; there
+ * is no final null byte. If the message is longer than `out_length`, only its start is copied. Returns the length of
+ * the whole message, or 0 if the handle holds no explanation. */
 size_t peg_explanation_message(peg_explanation *explanation, uint8_t *out, size_t out_length);
 
 /* Writes the position where the text doesn't match, and how much is expected there.

@@ -114,7 +114,7 @@ class Grammar:
         >>> Grammar("Word <- [a-z]+").parse("ab1")
         Traceback (most recent call last):
         ...
-        pegtool._errors.ParseError: <text>:1:3: expected [a-z] or the end, found '1'
+        pegtool._errors.ParseError: <text>:1:3: expected the end or [a-z], found '1'
         ab1
           ^
 

@@ -309,7 +309,7 @@ class RawExplanation(NamedTuple):
 def raw_explanation(found: Handle) -> RawExplanation:
     """Copies what an explanation handle holds."""
     copy = copied(lambda out, length: LIBRARY.peg_explanation_message(byref(found), out, length))
-    # The name is empty, so the message is ":LINE:COLUMN: SENTENCE" and two lines.
+    # The name is empty, so the message is ":LINE:COLUMN: SENTENCE", two lines, and a note for some grammars.
     message = copy.decode("utf-8", "backslashreplace")
     sentence = message.partition(": ")[2].partition("\n")[0]
     mismatch = PegMismatch()

@@ -392,7 +392,7 @@ class _Answer(Generic[AnyText]):
         except StepLimitError:
             return self._furthest_error(name or self.name)
         items = [_item(self._written(start, end)) for start, end in raw.expected]
-        expected = _each_once(items + ["the end"] * raw.end_expected)
+        expected = _end_first(items + ["the end"] * raw.end_expected)
         return self._error_at(request.first + raw.position, raw.sentence, expected, name or self.name)
 
     def _furthest_error(self, name: str) -> ParseError:
@@ -400,7 +400,7 @@ class _Answer(Generic[AnyText]):
         end = self._end()
         offset = self.byte_far if end is None else max(self.byte_far, end)
         expected = self.expected if offset == self.byte_far else []
-        expected = _each_once(expected + ["the end"] * (offset == end))
+        expected = _end_first(expected + ["the end"] * (offset == end))
         return self._error_at(offset, sentence_of(self.data, offset, expected), expected, name)
 
     def _error_at(self, offset: int, sentence: str, expected: List[str], name: str) -> ParseError:
@@ -630,6 +630,11 @@ class Match(_Answer[AnyText]):
 def _each_once(items: Iterable[str]) -> List[str]:
     """The items without repetitions."""
     return list(dict.fromkeys(items))
+
+
+def _end_first(items: Iterable[str]) -> List[str]:
+    """The items without repetitions, and the end before the others, as in a message."""
+    return _each_once(sorted(items, key=lambda item: item != "the end"))
 
 
 def _item(written: str) -> str:

@@ -114,10 +114,10 @@ class Parses(unittest.TestCase):
             Grammar("Line <- Word ('\\n' Word)*\nWord <- [a-z]+\n").parse("ab\nc1", name="notes.txt")
         error = caught.exception
         self.assertEqual((error.position, error.line, error.column), (4, 2, 2))
-        self.assertEqual(error.expected, ["'\\n'", "[a-z]", "the end"])
+        self.assertEqual(error.expected, ["the end", "'\\n'", "[a-z]"])
         self.assertEqual((error.found, error.consumed), ("'1'", 4))
         self.assertEqual(
-            str(error), "notes.txt:2:2: expected '\\n', [a-z] or the end, found '1'\nc1\n ^"
+            str(error), "notes.txt:2:2: expected the end, '\\n' or [a-z], found '1'\nc1\n ^"
         )
 
     def test_the_furthest_failure_may_be_after_the_match(self):
@@ -125,7 +125,7 @@ class Parses(unittest.TestCase):
             Grammar("S <- ('a' 'b')* 'a'?\n").parse("abac")
         error = caught.exception
         self.assertEqual((error.position, error.consumed, error.far), (3, 3, 3))
-        self.assertEqual(error.expected, ["'b'", "the end"])
+        self.assertEqual(error.expected, ["the end", "'b'"])
 
     def test_a_message_may_name_a_rule_in_place_of_its_class(self):
         with self.assertRaises(ParseError) as caught:

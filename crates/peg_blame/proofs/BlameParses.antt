@@ -10,6 +10,7 @@ use Rattle.peg_diagnostics.proofs.ItemNumbers.{extents-terminals}
 use Rattle.peg_diagnostics.proofs.Lookups.{Distinct}
 use Rattle.peg_grammar.specs.Outcomes.{IsParseOutcomeAmong}
 use Rattle.peg_machine.specs.Traced.{GetsCalls}
+use Rattle.peg_machine.specs.declared.answer.Answer.{Answer}
 use Rattle.peg_parser.specs.Calls.{AreCallsOf, TracesCallsOf}
 use Rattle.peg_semantics.specs.Grammar.{IsGrammar}
 use Rattle.peg_semantics.specs.Record.{RuleCall}
@@ -70,25 +71,25 @@ module _ (rules shown : List Rule) (named : Option (List ℕ)) (same : shown ≡
   stores stored calls = stored ≡ calls
 
   -- the rules that are called from a start
-  pub start-called : (text : List ℕ) (at : ℕ) (set : List Bool) (before after : List RuleCall) → before ≡ []
-      → Distinct (names (diagnostic_rules rules)) → ∥ IsWellFormedGrammar rules ∥₁
-      → IfSome (start_name shown named) (λ start. TracesCallsOf shown text start (GetsCalls true stores before after))
+  pub start-called : (text : List ℕ) (at : ℕ) (set : List Bool) (before after : List RuleCall) (answer : Answer)
+      → before ≡ [] → Distinct (names (diagnostic_rules rules)) → ∥ IsWellFormedGrammar rules ∥₁
+      → IfSome (start_name shown named) (λ start. TracesCallsOf shown text start answer (GetsCalls true stores before after))
       → ((rule : ℕ) → has_rule set rule ≡ is_called (calls_of_first (length rules) after) rule at)
       → IfSome (start_name rules named) (λ start. HasCalledRules rules text start at set)
-  start-called text at set before after none distinct formed traced is = by (start_name rules named) refl
+  start-called text at set before after answer none distinct formed traced is = by (start_name rules named) refl
     where
       by : (start : Option (List ℕ)) → start_name rules named ≡ start
           → IfSome start (λ start. HasCalledRules rules text start at set)
       by None found = tt
       by (Some start) found =
           let numbered = start-numbered rules named start some found in
-          let here : TracesCallsOf shown text start (GetsCalls true stores before after) =
-          subst (λ (o : Option (List ℕ)). IfSome o (λ start. TracesCallsOf shown text start (GetsCalls true stores before after)))
+          let here : TracesCallsOf shown text start answer (GetsCalls true stores before after) =
+          subst (λ (o : Option (List ℕ)). IfSome o (λ start. TracesCallsOf shown text start answer (GetsCalls true stores before after)))
           (shown-start start found) traced in
-          let calls = here.0 in
+          let calls = here.0.calls in
           let all : after ≡ calls = here.1 refl before refl ∙ ap (λ (l : List RuleCall). l ++ calls) none in
           called-rules rules distinct text start at set calls numbered.0 numbered.1 numbered.2 formed
-          (subst (λ (l : List Rule). AreCallsOf l text start calls) same here.2)
+          (subst (λ (l : List Rule). AreCallsOf l text start calls) same here.0.of_record)
           (λ rule. is rule ∙ ap (λ (l : List RuleCall). is_called (calls_of_first (length rules) l) rule at) all)
 
 -- indices of terminals are numbers of items

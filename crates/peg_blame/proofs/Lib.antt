@@ -3,3 +3,4 @@ pub mod BlameFaults
 mod BlameOutcomes
 mod BlameParses
 mod BlameStarts
+pub mod InTextLemmas

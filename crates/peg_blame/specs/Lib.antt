@@ -1,5 +1,6 @@
 pub use Rattle.peg_diagnostics.specs.Blame
 pub use Rattle.peg_diagnostics.specs.Diagnostic
+pub use Rattle.peg_diagnostics.specs.ItemKinds
 pub use Rattle.peg_diagnostics.specs.Items
 pub use Rattle.peg_diagnostics.specs.LoudCalls
 pub use Rattle.peg_semantics.specs.Furthest
@@ -10,3 +11,4 @@ pub mod BlameCalls
 pub mod BlameOutcome
 pub mod BlameParser
 pub mod Faults
+pub mod InText

@@ -7,9 +7,13 @@ ghost use Rattle.peg_blame.specs.Faults.{IsBlameRefusal, IsParserRefusal};
 ghost use Rattle.peg_bytes.specs.Extent.{extent};
 ghost use Rattle.peg_diagnostics.specs.Diagnostic.{diagnostic_rules};
 ghost use Rattle.peg_blame.specs.BlameCalls.{HasCalledRules};
+ghost use Rattle.peg_blame.specs.InText.{IsInText};
+ghost use Rattle.peg_diagnostics.specs.ItemKinds.{kinds_of_items};
 ghost use Rattle.peg_diagnostics.specs.Items.{extents_of_items, rules_of_items};
 ghost use Rattle.peg_grammar.specs.GrammarRules.{rules_in};
 ghost use Rattle.peg_grammar.specs.Limits.{max_text_bytes};
+ghost use Rattle.peg_code.specs.Compiled.{max_instructions};
+ghost use Rattle.peg_parser.specs.Accepts.{code_size};
 ghost use Rattle.peg_parser.specs.ParseContract.{HasParseFaults, HasParseSteps, HasStepLimit};
 ghost use Rattle.peg_parser.specs.Parser.{parser_rules, start_named};
 ghost use Rattle.peg_semantics.specs.Rules.{Rule};
@@ -19,7 +23,9 @@ ghost use Rattle.peg_semantics.specs.WellFormed.{IsWellFormedGrammar};
 use crate::called_rules::rules_called_at;
 use crate::fault::BlameFault;
 use peg_bytes::Span;
-use peg_diagnostics::{diagnostic_grammar, item_rules, item_spans, item_terminals};
+use peg_diagnostics::{
+    ItemKind, diagnostic_grammar, item_kinds, item_rules, item_spans, item_terminals,
+};
 use peg_grammar::Grammar;
 use peg_machine::ListWatch;
 use peg_parser::{Answer, ParseFault, ParseOptions, Parser, Refusal};
@@ -35,6 +41,7 @@ pub struct BlameParser {
     terminals: Vec<u32>,
     items: Vec<Span>,
     item_rules: Vec<u32>,
+    item_kinds: Vec<ItemKind>,
     ghost ascending: { IsStrictlyIncreasing terminals.items },
 }
 
@@ -60,12 +67,14 @@ impl BlameParser {
         let terminals = item_terminals(alloc, grammar)?;
         let items = item_spans(alloc, grammar)?;
         let item_rules = item_rules(alloc, grammar)?;
+        let item_kinds = item_kinds(alloc, grammar)?;
         Ok(BlameParser {
             parser,
             rules: grammar.rules(),
             terminals,
             items,
             item_rules,
+            item_kinds,
         })
     }
 
@@ -84,9 +93,17 @@ impl BlameParser {
         self.item_rules.as_slice()
     }
 
+    /// Returns what each item is, by item number. Constant time.
+    pub fn item_kinds(&self) -> &[ItemKind]
+        ensures { (rules : List Rule) → IsBlameParserOf rules self.now → result.now ≡ kinds_of_items rules }
+    {
+        self.item_kinds.as_slice()
+    }
+
     /// Parses a prefix of a text by the grammar as written. Success, consumed length and tree are those of Ford's
     /// relation (Ford 2004, section 3.3). The furthest failure is that of the blame: the greatest offset where an item
-    /// failed outside predicates, and the numbers of the items that failed there, ascending.
+    /// failed outside predicates, and the numbers of the items that failed there, ascending. By the law
+    /// `each_blamed_item_fails` of `peg_diagnostics` each of them fails there by Ford's relation, too.
     ///
     /// The errors are those of `Parser::parse` for the grammar as written. The steps are those of the diagnostic
     /// grammar.
@@ -112,6 +129,7 @@ impl BlameParser {
             (λ start. IsBlameOutcome rules text.now start answer.outcome)) }
         ensures fits { (rules : List Rule) → IsBlameParserOf rules self.now → IfOk result (λ answer.
             All (λ item. item < length (extents_of_items rules)) answer.outcome.expected.items) }
+        ensures in_text { IfOk result (λ answer. IsInText text.now answer.outcome) }
 
         // The step limit and the steps, in plain steps of the diagnostic grammar.
         ensures limit { (rules : List Rule) → IsBlameParserOf rules self.now
@@ -129,7 +147,8 @@ impl BlameParser {
     }
 
     /// Returns the rules of the grammar as written that are called at a position of a text, outside predicates. The
-    /// calls are those of Ford's record of the text (Ford 2004, section 3.3), without those in predicates.
+    /// calls are those of Ford's record of the text (Ford 2004, section 3.3), without those in predicates. The law
+    /// `blame_calls_are_calls` of `peg_diagnostics` says that each is a call of the record.
     ///
     /// The text is parsed again, in one run. The errors are those of `blame`. Takes up to 16 bytes of memory for each
     /// call, besides what the parse takes.
@@ -184,6 +203,7 @@ impl BlameParser {
 fn diagnostic_parser(alloc: Global, diagnostic: Grammar) -> Result<Parser, BlameFault>
     ensures rules { IfOk result (λ parser. parser_rules parser ≡ rules_in diagnostic) }
     ensures well_formed { OnOk result (IsWellFormedGrammar (rules_in diagnostic)) }
+    ensures small { OnOk result (code_size (rules_in diagnostic) ≤ max_instructions) }
     ensures refused { IfErr result (IsParserRefusal (rules_in diagnostic)) }
 {
     match Parser::from_grammar(alloc, diagnostic) {

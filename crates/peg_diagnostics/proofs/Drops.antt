@@ -3,7 +3,7 @@ use Rattle.std.proofs.lemmas.List.Sums.{sum_by-cons}
 use Rattle.std.proofs.Common.{◌≡◌, ℕ, zero, suc, ◌+◌, ◌*◌, ◌<◌, ◌≤◌, sum_by, append_assoc, List, [], ◌∷◌, ◌++◌, length}
 use Rattle.std.proofs.Common.{drop, slice_get, Some, option_map}
 use Rattle.std.proofs.Common.{refl, sym, ap, ◌∙◌, arith}
-use Rattle.peg_diagnostics.specs.Items.{item_extents, extents_of_items}
+use Rattle.peg_diagnostics.specs.Items.{item_extents, extents_of_items, forms_of_items, item_forms}
 use Rattle.peg_diagnostics.specs.Diagnostic.{loud}
 use Rattle.peg_diagnostics.specs.ItemTests.{added_terminals, added_terminals_from}
 use Rattle.peg_semantics.specs.Form.{Form, form_weight, terminals}
@@ -32,6 +32,14 @@ pub extents-drop : (rules : List Rule) (i : ℕ) (body : Form) → i < length ru
 extents-drop rules i body within is =
     let next = dropped rules i body within is in
     ap extents_of_items next.2 ∙ ap (λ e. item_extents e ++ extents_of_items (drop (i + 1) rules)) next.1
+
+-- the expressions that are the items of those rules
+pub forms-of-drop : (rules : List Rule) (i : ℕ) (body : Form) → i < length rules
+    → option_map (λ (r : Rule). r.body) (slice_get rules i) ≡ Some body
+    → forms_of_items (drop i rules) ≡ item_forms body ++ forms_of_items (drop (i + 1) rules)
+forms-of-drop rules i body within is =
+    let next = dropped rules i body within is in
+    ap forms_of_items next.2 ∙ ap (λ e. item_forms e ++ forms_of_items (drop (i + 1) rules)) next.1
 
 -- the terminals of those rules made loud
 pub loud_terminals-rules : (rules : List Rule) (i : ℕ) (body : Form) → i < length rules

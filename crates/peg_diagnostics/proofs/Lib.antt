@@ -1,4 +1,5 @@
 mod AnyExpression
+mod BlamedItems
 pub mod BlameLemmas
 mod BlameResults
 pub mod DiagnosisLemmas
@@ -7,6 +8,7 @@ mod DiagnosticOutcomes
 pub mod DiagnosticWellFormed
 mod Drops
 mod EmptySet
+mod ItemForms
 pub mod ItemNumbers
 mod KnownNames
 pub mod Lookups

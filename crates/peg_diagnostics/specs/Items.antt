@@ -40,6 +40,30 @@ item_meaning_from rule item (r ∷ rs) name =
 abbrev pub item_meaning_of : List Rule → List ℕ → Option Meaning
 item_meaning_of rules name = item_meaning_from 0 0 rules name
 
+-- The expressions that are an expression's items, in written order.
+abbrev mutual
+  pub item_forms : Form → List Form
+  item_forms (Literal bytes span) = Literal bytes span ∷ []
+  item_forms (Class set span) = Class set span ∷ []
+  item_forms (Any span) = Any span ∷ []
+  item_forms (Name name span) = []
+  item_forms (Seq parts span) = item_forms_of_all parts
+  item_forms (Choice first rest span) = item_forms first ++ item_forms_of_all rest
+  item_forms (Optional part span) = item_forms part
+  item_forms (Star part span) = item_forms part
+  item_forms (Plus part span) = item_forms part
+  item_forms (Counted part min max span) = item_forms part
+  item_forms (And part span) = And part span ∷ []
+  item_forms (Not part span) = Not part span ∷ []
+
+  pub item_forms_of_all : Forms → List Form
+  item_forms_of_all End = []
+  item_forms_of_all (Then e rest) = item_forms e ++ item_forms_of_all rest
+
+-- the expressions that are the rules' items, by item number: rule by rule, left to right
+abbrev pub forms_of_items : List Rule → List Form
+forms_of_items rules = flat_map (λ rule. item_forms rule.body) rules
+
 -- The extents of an expression's items, in written order.
 abbrev mutual
   pub item_extents : Form → List Extent

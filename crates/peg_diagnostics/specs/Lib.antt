@@ -6,7 +6,9 @@ pub mod Blame
 pub mod BlameExamples
 pub mod Diagnosis
 pub mod Diagnostic
+pub mod FailedItems
 pub mod Items
+pub mod ItemKinds
 pub mod ItemTests
 pub mod LoudCalls
 pub mod Marked

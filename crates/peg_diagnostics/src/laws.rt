@@ -1,6 +1,6 @@
 //! Laws of the diagnostic grammar, for every grammar and text. Each function does nothing; the contract of the function
 //! is the law.
-ghost use Rattle.std.specs.Prelude.{◌≡◌, ◌≢◌, ◌↔◌, ℕ, ◌<◌, suc, All, AllPairs, List, [], ◌∷◌, Some};
+ghost use Rattle.std.specs.Prelude.{◌≡◌, ◌≢◌, ◌↔◌, ℕ, ◌<◌, suc, All, AllPairs, Contains, List, [], ◌∷◌, Some};
 ghost use Rattle.std.specs.Prelude.{codes, length};
 ghost use Rattle.std.specs.List.Sorted.{IsStrictlyIncreasing};
 ghost use Rattle.peg_bytes.specs.Extent.{Extent, between};
@@ -9,6 +9,7 @@ ghost use Rattle.peg_diagnostics.specs.BlameExamples.{guarded, keyword, predicat
 ghost use Rattle.peg_diagnostics.specs.BlameExamples.{keyword_blame, identifier_blame};
 ghost use Rattle.peg_diagnostics.specs.Diagnosis.{Diagnosis};
 ghost use Rattle.peg_diagnostics.specs.Diagnostic.{diagnostic_rules, loud, HaveNoMark};
+ghost use Rattle.peg_diagnostics.specs.FailedItems.{ItemFails};
 ghost use Rattle.peg_diagnostics.specs.Items.{extents_of_items, item_meaning_of};
 ghost use Rattle.peg_diagnostics.specs.ItemTests.{item_of_terminal, item_terminals, item_tests};
 ghost use Rattle.peg_diagnostics.specs.Placed.{IsPlaced};
@@ -29,6 +30,21 @@ pub fn blame_is_monotone_in_depth()
 pub fn blame_is_unique()
     ensures { (rules : List Rule) (text : List ℕ) (e : Form) (item position : ℕ) (r s : Record)
         → HasBlame rules text e item position r → HasBlame rules text e item position s → r ≡ s }
+{}
+
+/// Each failed test of a blame is the failure of an item: the expression of the item has a record at the position of the
+/// test, and the record fails (Ford 2004, section 3.3). So what a message names as expected wasn't there.
+pub fn each_blamed_item_fails()
+    ensures { (rules : List Rule) (text : List ℕ) (n : ℕ) (start : List ℕ) (r b : Record)
+        → start_record rules text n start ≡ Some r → StartHasBlame rules text start b
+        → All (λ (test : Test). ItemFails rules text test.terminal test.position) b.tests }
+{}
+
+/// Each call of a blame is a call of Ford's record of the text.
+pub fn blame_calls_are_calls()
+    ensures { (rules : List Rule) (text : List ℕ) (n : ℕ) (start : List ℕ) (r b : Record)
+        → start_record rules text n start ≡ Some r → StartHasBlame rules text start b
+        → All (Contains r.calls) b.calls }
 {}
 
 /// The definitions give the blame of grammars that were worked by hand: result, trees, failed items and calls. They

@@ -5,6 +5,7 @@
 mod alternatives;
 mod builders;
 mod diagnostic;
+mod kinds;
 pub mod laws;
 mod loud_copies;
 pub mod mark_laws;
@@ -17,6 +18,7 @@ mod terminals;
 
 pub use alternatives::alternative_spans;
 pub use diagnostic::diagnostic_grammar;
+pub use kinds::{ItemKind, item_kinds};
 pub use marked::marked_grammar;
 pub use rule_numbers::item_rules;
 pub use spans::item_spans;

@@ -6,7 +6,7 @@ use Rattle.peg_semantics.specs.Terminals.{extents_of_terminals}
 use Rattle.peg_tree.specs.declared.outcome.Outcome.{Outcome}
 use Rattle.peg_explain.specs.Expected.{expected_spans, numbered_spans, unnamed_fact}
 use Rattle.peg_explain.specs.Explanations.{ItemFact, ItemFacts, expected_items, facts_by_tests, item_numbered}
-use Rattle.peg_explain.specs.Explanations.{items_numbered, max_items}
+use Rattle.peg_explain.specs.Explanations.{max_items}
 use Rattle.peg_explain.specs.Reports.{are_items_expected}
 
 -- the number of items that are looked at
@@ -23,27 +23,27 @@ listed-spans all outcome numbers spans asked first are =
     are ∙ ap (numbered_spans all) (first ∙ ap (λ (n : ℕ). take n outcome.expected.items) (sym most))
     ∙ ap (λ (b : Bool). if b then numbered_spans all (take max_items outcome.expected.items) else []) asked
 
-module _ (file : List ℕ) (outcome : Outcome) where
+module _ (outcome : Outcome) where
   -- the first items, if items are expected
-  pub listed-items : (facts : ItemFacts) (extents : List Extent) (rules : List ℕ) (items : List ItemFact)
-      → true ≡ are_items_expected outcome.result outcome.far → extents ≡ facts.extents → rules ≡ facts.rules
-      → items ≡ map (item_numbered file extents rules facts.rests) (take 65536 outcome.expected.items)
-      → items ≡ expected_items file facts outcome
-  listed-items facts extents rules items asked same_extents same_rules are =
+  pub listed-items : (known facts : ItemFacts) (items : List ItemFact)
+      → true ≡ are_items_expected outcome.result outcome.far → known ≡ facts
+      → items ≡ map (item_numbered known) (take 65536 outcome.expected.items) → items ≡ expected_items facts outcome
+  listed-items known facts items asked same are =
       let few : 65536 ≡ max_items = sym most in
       are
-      ∙ (λ i. map (item_numbered file (same_extents i) (same_rules i) facts.rests) (take (few i) outcome.expected.items))
-      ∙ ap (λ (b : Bool). if b then items_numbered file facts (take max_items outcome.expected.items) else []) asked
+      ∙ (λ i. map (item_numbered (same i)) (take (few i) outcome.expected.items))
+      ∙ ap (λ (b : Bool). if b then map (item_numbered facts) (take max_items outcome.expected.items) else []) asked
 
   -- numbered items whose rules aren't known
-  unnamed-numbered : (extents : List Extent) (numbers : List ℕ)
-      → map unnamed_fact (numbered_spans extents numbers) ≡ map (item_numbered file extents [] []) numbers
-  unnamed-numbered extents [] = refl
-  unnamed-numbered extents (number ∷ numbers) = ap₂ ◌∷◌ refl (unnamed-numbered extents numbers)
+  unnamed-numbered : (rules : List Rule) (numbers : List ℕ)
+      → map unnamed_fact (numbered_spans (extents_of_terminals rules) numbers)
+      ≡ map (item_numbered (facts_by_tests rules)) numbers
+  unnamed-numbered rules [] = refl
+  unnamed-numbered rules (number ∷ numbers) = ap₂ ◌∷◌ refl (unnamed-numbered rules numbers)
 
   -- items whose rules aren't known
   pub unnamed-items : (rules : List Rule) (spans : List Extent) → spans ≡ expected_spans (extents_of_terminals rules) outcome
-      → map unnamed_fact spans ≡ expected_items file (facts_by_tests rules) outcome
+      → map unnamed_fact spans ≡ expected_items (facts_by_tests rules) outcome
   unnamed-items rules spans are =
       ap (map unnamed_fact) are ∙ by (are_items_expected outcome.result outcome.far)
     where
@@ -55,6 +55,6 @@ module _ (file : List ℕ) (outcome : Outcome) where
 
       by : (b : Bool)
           → map unnamed_fact (if b then numbered_spans (extents_of_terminals rules) numbers else [])
-          ≡ (if b then items_numbered file facts numbers else [])
-      by true = unnamed-numbered (extents_of_terminals rules) numbers
+          ≡ (if b then map (item_numbered facts) numbers else [])
+      by true = unnamed-numbered rules numbers
       by false = refl

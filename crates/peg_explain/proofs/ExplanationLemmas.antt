@@ -12,29 +12,29 @@ use Rattle.peg_explain.specs.declared.names.Rest.{Rest}
 use Rattle.peg_explain.specs.declared.style.ItemStyle.{ItemStyle}
 
 -- what is said by a blame
-pub blame-explains : (file : List ℕ) (rules : List Rule) (style : ItemStyle) (text : List ℕ) (found : Option (List ℕ))
+pub blame-explains : (rules : List Rule) (style : ItemStyle) (text : List ℕ) (found : Option (List ℕ))
     (outcome : Outcome) (Says : ItemFacts → Outcome → Type 0)
     → IfSome found (λ start. IsBlameOutcome rules text start outcome)
     → ((start : List ℕ) → found ≡ Some start → (is : IsBlameOutcome rules text start outcome)
-    → (rests : List Rest) × AreRestsFor file rules style text outcome is.blame.calls rests
+    → (rests : List Rest) × AreRestsFor rules style text outcome is.blame.calls rests
     × Says (facts_by_blame rules rests) outcome)
-    → IfSome found (λ start. IsExplained file rules style text start Says)
-blame-explains file rules style text None outcome Says blamed says = tt
-blame-explains file rules style text (Some start) outcome Says blamed says =
+    → IfSome found (λ start. IsExplained rules style text start Says)
+blame-explains rules style text None outcome Says blamed says = tt
+blame-explains rules style text (Some start) outcome Says blamed says =
     let said = says start refl blamed in by_blame outcome blamed said.0 said.1 said.2
 
 -- the same for the outcome of a parse
-pub tests-explain : (file : List ℕ) (rules : List Rule) (style : ItemStyle) (text : List ℕ) (found : Option (List ℕ))
+pub tests-explain : (rules : List Rule) (style : ItemStyle) (text : List ℕ) (found : Option (List ℕ))
     (outcome : Outcome) (Says : ItemFacts → Outcome → Type 0) → HasNoBlameParser rules
     → IfSome found (λ start. IsParseOutcome rules text start outcome)
-    → Says (facts_by_tests rules) outcome → IfSome found (λ start. IsExplained file rules style text start Says)
-tests-explain file rules style text None outcome Says lacks parsed says = tt
-tests-explain file rules style text (Some start) outcome Says lacks parsed says = by_tests outcome lacks parsed says
+    → Says (facts_by_tests rules) outcome → IfSome found (λ start. IsExplained rules style text start Says)
+tests-explain rules style text None outcome Says lacks parsed says = tt
+tests-explain rules style text (Some start) outcome Says lacks parsed says = by_tests outcome lacks parsed says
 
 -- the message for the mismatch in a text is its explanation
 pub message-explains : (file : List ℕ) (rules : List Rule) (style : ItemStyle) (name text : List ℕ)
     (found : Option (List ℕ)) (mismatch : Mismatch) (message : List ℕ)
-    → IfSome found (λ start. IsMismatchIn file rules style text start (Some mismatch))
+    → IfSome found (λ start. IsMismatchIn rules style text start (Some mismatch))
     → IsMismatchMessage file rules style name text mismatch message
     → IfSome found (λ start. IsExplanation file rules style name text start (Some message))
 message-explains file rules style name text None mismatch message is written = tt
@@ -45,7 +45,7 @@ message-explains file rules style name text (Some start) mismatch message (by_te
 
 -- a text without a mismatch has no message
 pub no_message-explains : (file : List ℕ) (rules : List Rule) (style : ItemStyle) (name text : List ℕ)
-    (found : Option (List ℕ)) → IfSome found (λ start. IsMismatchIn file rules style text start None)
+    (found : Option (List ℕ)) → IfSome found (λ start. IsMismatchIn rules style text start None)
     → IfSome found (λ start. IsExplanation file rules style name text start None)
 no_message-explains file rules style name text None is = tt
 no_message-explains file rules style name text (Some start) (by_blame outcome blamed rests are says) =

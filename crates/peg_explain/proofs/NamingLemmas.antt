@@ -16,7 +16,7 @@ use Rattle.peg_parser.specs.StepLimits.{TakesMoreSteps}
 use Rattle.peg_parser.specs.declared.parser.ParseFault.{ParseFault}
 use Rattle.peg_parser.specs.declared.parser.ParseFault.TheVariants as fault
 use Rattle.peg_semantics.specs.Record.{RuleCall}
-use Rattle.peg_semantics.specs.Rules.{Rule, is_defined, name_of, names}
+use Rattle.peg_semantics.specs.Rules.{Rule, name_of, names}
 use Rattle.peg_semantics.specs.Starts.{start_name}
 use Rattle.peg_tree.specs.declared.outcome.Outcome.{Outcome}
 use Rattle.peg_explain.specs.Explanations.{AreRestsBy, max_named, nameable_items}
@@ -56,13 +56,13 @@ none-nameable bytes outcome (inr unasked) =
 
 -- ---- rests
 
-module _ (file : List ℕ) (rules : List Rule) (text : List ℕ) (calls : List RuleCall) (at : ℕ) where
+module _ (rules : List Rule) (text : List ℕ) (calls : List RuleCall) (at : ℕ) where
   -- no items are named by no rests
   pub no-rests : (uses_names : Bool) (items : List ℕ) → items ≡ []
-      → AreRestsBy uses_names file rules text calls at items []
+      → AreRestsBy uses_names rules text calls at items []
   no-rests false items none = refl
-  no-rests true items none = subst (λ (all : List ℕ). AreRests file rules text calls at all []) (sym none) (record {
-    needed = All-nil (λ rest. NamesSome file rules calls at [] rest.rule);
+  no-rests true items none = subst (λ (all : List ℕ). AreRests rules text calls at all []) (sym none) (record {
+    needed = All-nil (λ rest. NamesSome rules calls at [] rest.rule);
     outcomes = All-nil _;
     complete = All-nil _;
   })
@@ -106,51 +106,51 @@ start-of_rule rules rule within =
 -- ---- rests that are added one by one
 
 -- The rests after the first items: they are needed, they are outcomes, and those of the first items are there.
-pub record AreRestsSoFar (file : List ℕ) (rules : List Rule) (text : List ℕ) (calls : List RuleCall) (at : ℕ)
+pub record AreRestsSoFar (rules : List Rule) (text : List ℕ) (calls : List RuleCall) (at : ℕ)
     (items : List ℕ) (index : ℕ) (rests : List Rest) : Type 0 where
-  pub needed : All (λ rest. NamesSome file rules calls at items rest.rule) rests
+  pub needed : All (λ rest. NamesSome rules calls at items rest.rule) rests
   pub outcomes : All (λ rest. IsBlameOutcome rules (drop at text) (name_of rules rest.rule) rest.outcome) rests
-  pub complete : All (λ item. (rule : ℕ) → CanBeNamed file rules calls at item rule → has_rest rests rule ≡ true)
+  pub complete : All (λ item. (rule : ℕ) → CanBeNamed rules calls at item rule → has_rest rests rule ≡ true)
       (take index items)
 
-module _ (file : List ℕ) (rules : List Rule) (text : List ℕ) (calls : List RuleCall) (at : ℕ) (items : List ℕ) where
+module _ (rules : List Rule) (text : List ℕ) (calls : List RuleCall) (at : ℕ) (items : List ℕ) where
   -- no rests at first
-  pub no-rests-so-far : AreRestsSoFar file rules text calls at items 0 []
+  pub no-rests-so-far : AreRestsSoFar rules text calls at items 0 []
   no-rests-so-far = record { needed = All-nil _; outcomes = All-nil _; complete = All-nil _ }
 
   -- an item that needs no more rests
   pub more-without : (index : ℕ) (rests : List Rest) → index < length items
-      → ((rule : ℕ) → CanBeNamed file rules calls at (get_or items index 0) rule → has_rest rests rule ≡ true)
-      → AreRestsSoFar file rules text calls at items index rests
-      → AreRestsSoFar file rules text calls at items (index + 1) rests
+      → ((rule : ℕ) → CanBeNamed rules calls at (get_or items index 0) rule → has_rest rests rule ≡ true)
+      → AreRestsSoFar rules text calls at items index rests
+      → AreRestsSoFar rules text calls at items (index + 1) rests
   more-without index rests within has so_far = record {
     needed = so_far.needed;
     outcomes = so_far.outcomes;
-    complete = All-more (λ item. (rule : ℕ) → CanBeNamed file rules calls at item rule → has_rest rests rule ≡ true) items
+    complete = All-more (λ item. (rule : ℕ) → CanBeNamed rules calls at item rule → has_rest rests rule ≡ true) items
         index 0 within so_far.complete has;
   }
 
   -- an item that needs one more rest
   pub more-with : (index : ℕ) (rests : List Rest) (more : Rest) → index < length items
-      → CanBeNamed file rules calls at (get_or items index 0) more.rule
+      → CanBeNamed rules calls at (get_or items index 0) more.rule
       → IsBlameOutcome rules (drop at text) (name_of rules more.rule) more.outcome
-      → AreRestsSoFar file rules text calls at items index rests
-      → AreRestsSoFar file rules text calls at items (index + 1) (rests ++ more ∷ [])
+      → AreRestsSoFar rules text calls at items index rests
+      → AreRestsSoFar rules text calls at items (index + 1) (rests ++ more ∷ [])
   more-with index rests more within can is so_far = record {
-    needed = All-push (λ rest. NamesSome file rules calls at items rest.rule) rests more so_far.needed
+    needed = All-push (λ rest. NamesSome rules calls at items rest.rule) rests more so_far.needed
         (get_or items index 0, Contains-get_or items index 0 within, can);
     outcomes = All-push (λ rest. IsBlameOutcome rules (drop at text) (name_of rules rest.rule) rest.outcome) rests more
         so_far.outcomes is;
     complete = All-more
-        (λ item. (rule : ℕ) → CanBeNamed file rules calls at item rule → has_rest (rests ++ more ∷ []) rule ≡ true)
+        (λ item. (rule : ℕ) → CanBeNamed rules calls at item rule → has_rest (rests ++ more ∷ []) rule ≡ true)
         items index 0 within
-        (All-weaker (λ item. (rule : ℕ) → CanBeNamed file rules calls at item rule → has_rest rests rule ≡ true)
-        (λ item. (rule : ℕ) → CanBeNamed file rules calls at item rule → has_rest (rests ++ more ∷ []) rule ≡ true)
+        (All-weaker (λ item. (rule : ℕ) → CanBeNamed rules calls at item rule → has_rest rests rule ≡ true)
+        (λ item. (rule : ℕ) → CanBeNamed rules calls at item rule → has_rest (rests ++ more ∷ []) rule ≡ true)
         (λ item has rule this. has_rest-kept rests more rule (has rule this)) (take index items) so_far.complete)
         (λ rule this. has_rest-added rests more rule (same-rule rule this));
   }
     where
-      same-rule : (rule : ℕ) → CanBeNamed file rules calls at (get_or items index 0) rule → (more.rule == rule) ≡ true
+      same-rule : (rule : ℕ) → CanBeNamed rules calls at (get_or items index 0) rule → (more.rule == rule) ≡ true
       same-rule rule this =
           let both : Some more.rule ≡ Some rule = sym can.of_rule ∙ this.of_rule in
           let same : more.rule ≡ rule = cc in
@@ -158,11 +158,11 @@ module _ (file : List ℕ) (rules : List Rule) (text : List ℕ) (calls : List R
 
   -- all rests
   pub all-rests : (index : ℕ) (rests : List Rest) → length items ≤ index
-      → AreRestsSoFar file rules text calls at items index rests → AreRests file rules text calls at items rests
+      → AreRestsSoFar rules text calls at items index rests → AreRests rules text calls at items rests
   all-rests index rests over so_far = record {
     needed = so_far.needed;
     outcomes = so_far.outcomes;
-    complete = subst (All (λ item. (rule : ℕ) → CanBeNamed file rules calls at item rule → has_rest rests rule ≡ true))
+    complete = subst (All (λ item. (rule : ℕ) → CanBeNamed rules calls at item rule → has_rest rests rule ≡ true))
         (take_all index items over) so_far.complete;
   }
 
@@ -198,10 +198,10 @@ not-memory {V} result why alone is =
     subst (λ (r : Result V ParseFault). IfErr r (λ stated. stated ≡ fault.Memory)) is alone
 
 -- the rests by which items are named, if the style uses names
-pub rests-by : (uses_names : Bool) (file : List ℕ) (rules : List Rule) (text : List ℕ) (calls : List RuleCall)
+pub rests-by : (uses_names : Bool) (rules : List Rule) (text : List ℕ) (calls : List RuleCall)
     (at there : ℕ) (items numbers : List ℕ) (rests : List Rest) → uses_names ≡ true → at ≡ there → items ≡ numbers
-    → AreRests file rules text calls at items rests → AreRestsBy uses_names file rules text calls there numbers rests
-rests-by false file rules text calls at there items numbers rests used place same are = cc
-rests-by true file rules text calls at there items numbers rests used place same are =
-    subst (λ (p : ℕ). AreRests file rules text calls p numbers rests) place
-    (subst (λ (all : List ℕ). AreRests file rules text calls at all rests) same are)
+    → AreRests rules text calls at items rests → AreRestsBy uses_names rules text calls there numbers rests
+rests-by false rules text calls at there items numbers rests used place same are = cc
+rests-by true rules text calls at there items numbers rests used place same are =
+    subst (λ (p : ℕ). AreRests rules text calls p numbers rests) place
+    (subst (λ (all : List ℕ). AreRests rules text calls at all rests) same are)

@@ -7,6 +7,8 @@ use Rattle.peg_notation.specs.declared.fault.NotationFault.TheVariants as notati
 use Rattle.peg_parser.specs.Cause.{Cause, LeftRecursion}
 use Rattle.peg_parser.specs.Faults.{HasDefinitionsOf, cause_of, grammar_cause, notation_cause}
 use Rattle.peg_parser.specs.declared.refusal.Refusal.{Refusal}
+use Rattle.peg_parser.proofs.DefinitionLemmas.{defined-as}
+use Rattle.peg_grammar.specs.GrammarRules.{rules_in}
 use Rattle.peg_parser.specs.declared.refusal.Refusal.TheVariants as refusal
 use Rattle.peg_semantics.specs.Rules.{Rule, defined_at}
 use Rattle.peg_explain.specs.RefusalMessages.{AreRulesOfCycle, refusal_definitions}
@@ -36,7 +38,7 @@ pub record HasRules (file : List ℕ) (why : Refusal) (cause : Cause) : Type 0 w
 pub cause-rules : (file : List ℕ) (why : Refusal) (cause : Cause) → cause_of why ≡ Some cause → HasDefinitionsOf file why
     → HasRules file why cause
 cause-rules file (refusal.NotWellFormed why grammar) cause is has =
-    record { rules = has.0; of_cycle = λ path cycle. has.1; defined = has.2 }
+    record { rules = has.0; of_cycle = λ path cycle. has.1; defined = defined-as has.0 (rules_in grammar) has.2 }
 cause-rules file (refusal.Notation why) cause is has =
     record { rules = []; of_cycle = λ path cycle. absurd (no_cycle-notation why path (is ∙ ap Some cycle)); defined = refl }
 cause-rules file (refusal.Grammar why) cause is has =

@@ -1,13 +1,15 @@
 -- The explanation of a text: the message for the outcome of its parse.
-use Rattle.std.specs.Prelude.{◌≡◌, ◌≢◌, ◌⊎◌, ℕ, Bool, true, false, not, ◌==◌, ◌&&◌, ◌||◌, if◌then◌else◌, List, []}
-use Rattle.std.specs.Prelude.{Option, None, Some, length, map, min, option_map, slice_get, slice_index, slice_index_or, take}
+use Rattle.std.specs.Prelude.{◌≡◌, ◌≢◌, ◌⊎◌, ℕ, Bool, true, false, not, ◌&&◌, if◌then◌else◌, List, []}
+use Rattle.std.specs.Prelude.{◌++◌, codes, Option, None, Some, length, map, option_map, slice_get, take}
 use Rattle.peg_blame.specs.BlameOutcome.{IsBlameOutcome}
-use Rattle.peg_blame.specs.Faults.{IsBlameRefusal}
+use Rattle.peg_blame.specs.Faults.{CanBeBlamed, IsBlameRefusal}
 use Rattle.peg_blame.specs.declared.fault.BlameFault.{BlameFault}
 use Rattle.peg_blame.specs.declared.fault.BlameFault.TheVariants.{Memory}
 use Rattle.peg_bytes.specs.Extent.{Extent, extent}
 use Rattle.peg_diagnostics.specs.Diagnostic.{diagnostic_rules}
+use Rattle.peg_diagnostics.specs.ItemKinds.{kinds_of_items}
 use Rattle.peg_diagnostics.specs.Items.{extents_of_items, rules_of_items}
+use Rattle.peg_diagnostics.specs.declared.kinds.ItemKind.{ItemKind}
 use Rattle.peg_grammar.specs.Outcomes.{IsParseOutcome}
 use Rattle.peg_messages.specs.Failures.{failure_message}
 use Rattle.peg_messages.specs.declared.failure.Failure.{Failure}
@@ -18,6 +20,8 @@ use Rattle.peg_semantics.specs.Rules.{Rule, names}
 use Rattle.peg_semantics.specs.Terminals.{extents_of_terminals}
 use Rattle.peg_tree.specs.declared.outcome.Outcome.{Outcome}
 use Rattle.peg_explain.specs.Names.{AreRests, is_class_or_dot, numbered_extent, stands_for}
+use Rattle.peg_explain.specs.declared.mismatch.Analysis.{Analysis}
+use Rattle.peg_explain.specs.declared.mismatch.Analysis.TheVariants.{Items, Tests}
 use Rattle.peg_explain.specs.declared.mismatch.ExpectedItem.{ExpectedItem}
 use Rattle.peg_explain.specs.declared.mismatch.Mismatch.{Mismatch}
 use Rattle.peg_explain.specs.declared.names.Rest.{Rest}
@@ -33,20 +37,29 @@ unfoldable pub max_named : ℕ
 max_named = 64
 
 -- What is known of the items that a message can name: the extent of each in the grammar file, the number of the rule
--- of each, and the outcomes of the rest of the text from rules that are called at the position.
+-- and the kind of each, the outcomes of the rest of the text from rules that are called at the position, and which
+-- failures were analysed.
 pub record ItemFacts : Type 0 where
   pub extents : List Extent
   pub rules : List ℕ
+  pub kinds : List ItemKind
   pub rests : List Rest
+  pub analysis : Analysis
 
 -- what is known by a blame
 abbrev pub facts_by_blame : List Rule → List Rest → ItemFacts
-facts_by_blame rules rests =
-    record { extents = extents_of_items rules; rules = rules_of_items rules; rests = rests }
+facts_by_blame rules rests = record {
+  extents = extents_of_items rules;
+  rules = rules_of_items rules;
+  kinds = kinds_of_items rules;
+  rests = rests;
+  analysis = Items;
+}
 
 -- what is known by the failed tests of terminals: neither their rules nor which calls are outside predicates
 abbrev pub facts_by_tests : List Rule → ItemFacts
-facts_by_tests rules = record { extents = extents_of_terminals rules; rules = []; rests = [] }
+facts_by_tests rules =
+    record { extents = extents_of_terminals rules; rules = []; kinds = []; rests = []; analysis = Tests }
 
 -- ---- what is expected
 
@@ -65,36 +78,32 @@ is_named_after rests None item = false
 is_named_after rests (Some rule) item = stands_for rests rule item
 
 -- The item with a number. A class or dot is named after its rule if the rule stands for it.
-abbrev pub item_numbered : (file : List ℕ) → List Extent → (rules : List ℕ) → List Rest → (number : ℕ) → ItemFact
-item_numbered file extents rules rests number = record {
-  extent = numbered_extent extents number;
-  rule = slice_get rules number;
+abbrev pub item_numbered : ItemFacts → (number : ℕ) → ItemFact
+item_numbered facts number = record {
+  extent = numbered_extent facts.extents number;
+  rule = slice_get facts.rules number;
   is_named =
-      is_named_after rests (slice_get rules number) number && is_class_or_dot file (numbered_extent extents number);
+      is_named_after facts.rests (slice_get facts.rules number) number && is_class_or_dot facts.kinds number;
 }
 
--- the items with some numbers
-abbrev pub items_numbered : (file : List ℕ) → ItemFacts → (numbers : List ℕ) → List ItemFact
-items_numbered file facts numbers = map (item_numbered file facts.extents facts.rules facts.rests) numbers
-
 -- the items that are expected at a position
-abbrev pub expected_items : (file : List ℕ) → ItemFacts → Outcome → List ItemFact
-expected_items file facts outcome =
+abbrev pub expected_items : ItemFacts → Outcome → List ItemFact
+expected_items facts outcome =
     if are_items_expected outcome.result outcome.far
-    then items_numbered file facts (take max_items outcome.expected.items) else []
+    then map (item_numbered facts) (take max_items outcome.expected.items) else []
 
--- A mismatch is that of an outcome, given what is known of the items. Its position is within the text.
-pub record IsMismatchOf (file : List ℕ) (facts : ItemFacts) (text : List ℕ) (outcome : Outcome)
-    (mismatch : Mismatch) : Type 0 where
-  pub at : mismatch.at ≡ min (named_position outcome.result outcome.far) (length text)
-  pub items : map fact_of mismatch.expected.items ≡ expected_items file facts outcome
+-- A mismatch is that of an outcome, given what is known of the items.
+pub record IsMismatchOf (facts : ItemFacts) (outcome : Outcome) (mismatch : Mismatch) : Type 0 where
+  pub at : mismatch.at ≡ named_position outcome.result outcome.far
+  pub items : map fact_of mismatch.expected.items ≡ expected_items facts outcome
   pub end : mismatch.is_end_expected ≡ is_end_expected outcome.result outcome.far
+  pub analysis : mismatch.analysis ≡ facts.analysis
 
 -- A text that matched as a whole has no mismatch. Otherwise the mismatch is that of the outcome.
-abbrev pub HasMismatch : (file : List ℕ) → ItemFacts → (text : List ℕ) → Outcome → Option Mismatch → Type 0
-HasMismatch file facts text outcome None = is_whole_match outcome.result (length text) ≡ true
-HasMismatch file facts text outcome (Some mismatch) =
-    (is_whole_match outcome.result (length text) ≡ false) × IsMismatchOf file facts text outcome mismatch
+abbrev pub HasMismatch : ItemFacts → (text : List ℕ) → Outcome → Option Mismatch → Type 0
+HasMismatch facts text outcome None = is_whole_match outcome.result (length text) ≡ true
+HasMismatch facts text outcome (Some mismatch) =
+    (is_whole_match outcome.result (length text) ≡ false) × IsMismatchOf facts outcome mismatch
 
 -- ---- messages
 
@@ -134,18 +143,24 @@ pub record IsFailureOf (file : List ℕ) (rules : List Rule) (style : ItemStyle)
   pub items : map message_item_of failure.expected.now ≡ map (shown_item rules style) mismatch.expected.items
   pub end : failure.is_end_expected ≡ mismatch.is_end_expected
 
--- the message for a mismatch
+-- the note at the end of a message, if terminals in predicates count
+abbrev pub note_text : Analysis → List ℕ
+note_text Items = []
+note_text Tests = codes "note: failures in predicates are included\n"
+
+-- the message for a mismatch, and its note
 abbrev pub IsMismatchMessage : (file : List ℕ) → List Rule → ItemStyle → (name text : List ℕ) → Mismatch
     → (message : List ℕ) → Type 0
 IsMismatchMessage file rules style name text mismatch message =
-    (failure : Failure) × IsFailureOf file rules style name text mismatch failure × (message ≡ failure_message failure)
+    (failure : Failure) × IsFailureOf file rules style name text mismatch failure
+    × (message ≡ failure_message failure ++ note_text mismatch.analysis)
 
 -- There is no message for a text that has no mismatch. Otherwise it is the message for the mismatch of the outcome.
 abbrev pub HasMessage : (file : List ℕ) → List Rule → ItemStyle → ItemFacts → (name text : List ℕ) → Outcome
     → Option (List ℕ) → Type 0
-HasMessage file rules style facts name text outcome None = HasMismatch file facts text outcome None
+HasMessage file rules style facts name text outcome None = HasMismatch facts text outcome None
 HasMessage file rules style facts name text outcome (Some message) = (mismatch : Mismatch)
-    × HasMismatch file facts text outcome (Some mismatch)
+    × HasMismatch facts text outcome (Some mismatch)
     × IsMismatchMessage file rules style name text mismatch message
 
 -- The rules have no parser of blame, for another reason than memory: they aren't well-formed, the name of a rule
@@ -160,52 +175,52 @@ nameable_items bytes outcome =
     then take max_named outcome.expected.items else []
 
 -- The rests by which items are named at a position, given the calls of a blame: none if the style doesn't use names.
-abbrev pub AreRestsBy : (uses_names : Bool) → (file : List ℕ) → List Rule → (text : List ℕ) → List RuleCall
+abbrev pub AreRestsBy : (uses_names : Bool) → List Rule → (text : List ℕ) → List RuleCall
     → (at : ℕ) → (items : List ℕ) → List Rest → Type 0
-AreRestsBy false file rules text calls at items rests = rests ≡ []
-AreRestsBy true file rules text calls at items rests = AreRests file rules text calls at items rests
+AreRestsBy false rules text calls at items rests = rests ≡ []
+AreRestsBy true rules text calls at items rests = AreRests rules text calls at items rests
 
 -- the same for the message for an outcome, given the calls of its blame
-abbrev pub AreRestsFor : (file : List ℕ) → List Rule → ItemStyle → (text : List ℕ) → Outcome → List RuleCall
+abbrev pub AreRestsFor : List Rule → ItemStyle → (text : List ℕ) → Outcome → List RuleCall
     → List Rest → Type 0
-AreRestsFor file rules style text outcome calls rests =
-    AreRestsBy style.uses_names file rules text calls (min (named_position outcome.result outcome.far) (length text))
+AreRestsFor rules style text outcome calls rests =
+    AreRestsBy style.uses_names rules text calls (named_position outcome.result outcome.far)
     (nameable_items (length text) outcome) rests
 
 -- What an explanation says of a text from a start rule, given what is known of the items and the outcome: by the blame of
 -- items; or by the failed tests of terminals, if the rules have no parser of blame.
-pub data IsExplained (file : List ℕ) (rules : List Rule) (style : ItemStyle) (text start : List ℕ)
+pub data IsExplained (rules : List Rule) (style : ItemStyle) (text start : List ℕ)
     (Says : ItemFacts → Outcome → Type 0) : Type 0 where
   by_blame : (outcome : Outcome) → (is : IsBlameOutcome rules text start outcome) → (rests : List Rest)
-      → AreRestsFor file rules style text outcome is.blame.calls rests
-      → Says (facts_by_blame rules rests) outcome → IsExplained file rules style text start Says
+      → AreRestsFor rules style text outcome is.blame.calls rests
+      → Says (facts_by_blame rules rests) outcome → IsExplained rules style text start Says
   by_tests : (outcome : Outcome) → HasNoBlameParser rules → IsParseOutcome rules text start outcome
-      → Says (facts_by_tests rules) outcome → IsExplained file rules style text start Says
+      → Says (facts_by_tests rules) outcome → IsExplained rules style text start Says
 
 -- the mismatch in a text from a start rule, or nothing for a text that matches as a whole
-abbrev pub IsMismatchIn : (file : List ℕ) → List Rule → ItemStyle → (text start : List ℕ) → Option Mismatch → Type 0
-IsMismatchIn file rules style text start mismatch =
-    IsExplained file rules style text start (λ facts outcome. HasMismatch file facts text outcome mismatch)
+abbrev pub IsMismatchIn : List Rule → ItemStyle → (text start : List ℕ) → Option Mismatch → Type 0
+IsMismatchIn rules style text start mismatch =
+    IsExplained rules style text start (λ facts outcome. HasMismatch facts text outcome mismatch)
 
 -- the explanation of a text from a start rule: the message, or nothing for a text that matches as a whole
 abbrev pub IsExplanation : (file : List ℕ) → List Rule → ItemStyle → (name text start : List ℕ) → Option (List ℕ)
     → Type 0
 IsExplanation file rules style name text start message =
-    IsExplained file rules style text start
+    IsExplained rules style text start
     (λ facts outcome. HasMessage file rules style facts name text outcome message)
 
--- The parse that an explanation needs takes more steps than the limit: the parse by the diagnostic rules; or the parse
--- by the rules themselves, if they have no parser of blame.
+-- The parse that an explanation needs takes more steps than the limit: the parse by the diagnostic rules if the rules
+-- have a parser of blame, else the parse by the rules themselves.
 abbrev pub ExplainingTakesMoreSteps : List Rule → (text : List ℕ) → (start : Option (List ℕ)) → (max_steps : Option ℕ)
     → Type 0
 ExplainingTakesMoreSteps rules text start max_steps =
-    TakesMoreSteps (diagnostic_rules rules) text start max_steps
+    (CanBeBlamed rules × TakesMoreSteps (diagnostic_rules rules) text start max_steps)
     ⊎ (HasNoBlameParser rules × TakesMoreSteps rules text start max_steps)
 
--- The parse that an explanation needs takes no more steps than the limit. It is the parse by the diagnostic rules, or the
--- parse by the rules themselves if they have no parser of blame.
+-- The parse that an explanation needs takes no more steps than the limit. It is the parse by the diagnostic rules if the
+-- rules have a parser of blame, else the parse by the rules themselves.
 abbrev pub ExplainingStaysWithin : List Rule → (text : List ℕ) → (start : Option (List ℕ)) → (max_steps : Option ℕ)
     → Type 0
 ExplainingStaysWithin rules text start max_steps =
-    (¬ TakesMoreSteps (diagnostic_rules rules) text start max_steps)
+    (CanBeBlamed rules × ¬ TakesMoreSteps (diagnostic_rules rules) text start max_steps)
     ⊎ (HasNoBlameParser rules × ¬ TakesMoreSteps rules text start max_steps)

@@ -2,9 +2,11 @@ pub use Rattle.peg_blame.specs.BlameCalls
 pub use Rattle.peg_blame.specs.BlameOutcome
 pub use Rattle.peg_blame.specs.BlameParser
 pub use Rattle.peg_blame.specs.Faults
+pub use Rattle.peg_blame.specs.InText
 pub use Rattle.peg_bytes.specs.Extent
 pub use Rattle.peg_bytes.specs.Place
 pub use Rattle.peg_diagnostics.specs.Diagnostic
+pub use Rattle.peg_diagnostics.specs.ItemKinds
 pub use Rattle.peg_diagnostics.specs.Items
 pub use Rattle.peg_grammar.specs.GrammarRules
 pub use Rattle.peg_grammar.specs.Limits

@@ -4,7 +4,7 @@ ghost use Rattle.peg_bytes.specs.Extent.{between, extent};
 ghost use Rattle.peg_parser.specs.Fits.{Fits};
 ghost use Rattle.peg_parser.specs.Parser.{parser_rules};
 ghost use Rattle.peg_semantics.specs.Terminals.{extents_of_terminals};
-ghost use Rattle.peg_explain.specs.Expected.{expected_spans, numbered_spans, unnamed_fact};
+ghost use Rattle.peg_explain.specs.Expected.{expected_spans, facts_in, numbered_spans, unnamed_fact};
 ghost use Rattle.peg_explain.specs.Explanations.{fact_of, is_named_after, item_numbered};
 ghost use Rattle.peg_explain.specs.Names.{is_class_or_dot};
 
@@ -12,6 +12,7 @@ use crate::mismatch::ExpectedItem;
 use crate::names::{Rest, stands_for};
 use crate::outcomes::are_items_expected;
 use peg_bytes::Span;
+use peg_diagnostics::ItemKind;
 use peg_parser::Parser;
 use peg_tree::Outcome;
 use std::alloc::{AllocError, Global};
@@ -22,12 +23,12 @@ const MAX_ITEMS: usize = 65_536;
 /// The most items that can be named.
 pub(crate) const MAX_NAMED: usize = 64;
 
-/// The items of a grammar file: the span and the rule of each.
+/// The items of a grammar file: the span, the rule and the kind of each.
 #[derive(Clone, Copy)]
 pub(crate) struct Items<'a> {
-    pub(crate) file: &'a [u8],
     pub(crate) spans: &'a [Span],
     pub(crate) rules: &'a [u32],
+    pub(crate) kinds: &'a [ItemKind],
 }
 
 /// Returns the items of the furthest failure. A class or dot is named after its rule if the rule stands for it.
@@ -37,9 +38,8 @@ pub(crate) fn items_of_failure(
     rests: &[Rest],
     outcome: &Outcome,
 ) -> Result<Vec<ExpectedItem>, AllocError>
-    ensures items { IfOk result (λ list. map fact_of list.items ≡ map (item_numbered items.now.file.now
-        (map extent items.now.spans.now) items.now.rules.now rests.now)
-        (take 65536 outcome.now.expected.items)) }
+    ensures items { IfOk result (λ list. map fact_of list.items
+        ≡ map (item_numbered (facts_in items.now rests.now)) (take 65536 outcome.now.expected.items)) }
     ensures few { IfOk result (λ list. length list.items < 2 ^ 32) }
 {
     listed_items(
@@ -57,8 +57,8 @@ fn listed_items(
     rests: &[Rest],
     numbers: &[u32],
 ) -> Result<Vec<ExpectedItem>, AllocError>
-    ensures items { IfOk result (λ list. map fact_of list.items ≡ map (item_numbered items.now.file.now
-        (map extent items.now.spans.now) items.now.rules.now rests.now) numbers.now) }
+    ensures items { IfOk result (λ list. map fact_of list.items
+        ≡ map (item_numbered (facts_in items.now rests.now)) numbers.now) }
     ensures count { IfOk result (λ list. length list.items ≡ length numbers.now) }
 {
     let mut list = Vec::new(alloc);
@@ -70,15 +70,14 @@ fn listed_items(
 
 // Returns the item with a number.
 fn item_at(items: &Items<'_>, rests: &[Rest], number: u32) -> ExpectedItem
-    ensures { fact_of result ≡ item_numbered items.now.file.now (map extent items.now.spans.now) items.now.rules.now
-        rests.now number }
+    ensures { fact_of result ≡ item_numbered (facts_in items.now rests.now) number }
 {
     let span = span_at(items.spans, number);
     let rule = items.rules.get(number as usize).copied();
     ExpectedItem {
         span,
         rule,
-        is_named: is_named_after(rests, rule, number) && is_class_or_dot(items.file, span),
+        is_named: is_named_after(rests, rule, number) && is_class_or_dot(items.kinds, number),
     }
 }
 
@@ -92,13 +91,13 @@ fn is_named_after(rests: &[Rest], rule: Option<u32>, number: u32) -> bool
     }
 }
 
-/// Returns whether the item with this span is a class or a dot.
-pub(crate) fn is_class_or_dot(file: &[u8], span: Span) -> bool
-    ensures { result ≡ is_class_or_dot file.now (extent span) }
+/// Returns whether the item with a number is a class or a dot, given the kinds of items.
+pub(crate) fn is_class_or_dot(kinds: &[ItemKind], number: u32) -> bool
+    ensures { result ≡ is_class_or_dot kinds.now number }
 {
-    match file.get(span.start as usize) {
-        Some(byte) => *byte == b'[' || *byte == b'.',
-        None => false,
+    match kinds.get(number as usize) {
+        Some(ItemKind::Byte) => true,
+        _ => false,
     }
 }
 

@@ -1,6 +1,6 @@
 //! Where texts don't match a grammar file.
 ghost use Rattle.std.specs.Prelude.{◌≡◌, ◌^◌, ◌≤◌, ◌<◌, ◌↔◌, ℕ, false, List, IfOk, IfSome, IsErrOf, None, OnOk, Some};
-ghost use Rattle.std.specs.Prelude.{length, map, min, option_map, take};
+ghost use Rattle.std.specs.Prelude.{◌++◌, length, map, option_map, take};
 ghost use Rattle.peg_blame.specs.BlameCalls.{is_called};
 ghost use Rattle.peg_blame.specs.BlameOutcome.{IsBlameOutcome};
 ghost use Rattle.peg_blame.specs.BlameParser.{IsBlameParserOf};
@@ -13,18 +13,20 @@ ghost use Rattle.peg_semantics.specs.Record.{Record};
 ghost use Rattle.peg_semantics.specs.Rules.{Rule};
 ghost use Rattle.peg_semantics.specs.Starts.{start_name};
 ghost use Rattle.peg_tree.specs.Selected.{has_rule};
-ghost use Rattle.peg_bytes.specs.Extent.{extent};
-ghost use Rattle.peg_diagnostics.specs.Items.{extents_of_items, rules_of_items};
+ghost use Rattle.peg_blame.specs.InText.{IsInText};
+ghost use Rattle.peg_diagnostics.specs.ItemKinds.{kinds_of_items};
+ghost use Rattle.peg_diagnostics.specs.Items.{rules_of_items};
 ghost use Rattle.peg_explain.specs.Explanations.{AreRestsBy, ExplainingStaysWithin, ExplainingTakesMoreSteps};
 ghost use Rattle.peg_explain.specs.Explanations.{HasMismatch, IsExplanation, IsMismatchIn, IsMismatchMessage, ItemFacts};
-ghost use Rattle.peg_explain.specs.Explanations.{expected_items, fact_of, message_item_of, rule_name, shown_item};
+ghost use Rattle.peg_explain.specs.Explanations.{expected_items, fact_of, message_item_of, note_text, rule_name};
+ghost use Rattle.peg_explain.specs.Explanations.{shown_item};
 ghost use Rattle.peg_explain.specs.Namings.{AreItemsFor};
 ghost use Rattle.peg_explain.specs.Reports.{is_whole_match, named_position};
 
 use crate::expected::{
     Items, MAX_NAMED, first_numbers, items_of_failure, spans_of_terminals, unnamed_items,
 };
-use crate::mismatch::{ExpectedItem, Mismatch};
+use crate::mismatch::{Analysis, ExpectedItem, Mismatch};
 use crate::names::{Naming, Rest};
 use crate::outcomes::{are_items_expected, is_end_expected, is_whole_match, named_position};
 use crate::style::ItemStyle;
@@ -50,7 +52,7 @@ impl<'a> Explainer<'a> {
     /// allocation.
     ///
     /// If the diagnostic grammar is over a limit that the grammar meets, messages name the furthest failure of
-    /// `Parser::parse`, which counts terminals in predicates, too.
+    /// `Parser::parse`, which counts terminals in predicates, too. A note at the end of a message says so.
     pub fn new(
         alloc: Global,
         file: &'a [u8],
@@ -141,7 +143,7 @@ impl<'a> Explainer<'a> {
         ensures short { OnOk result (length text.now ≤ max_text_bytes) }
         ensures mismatch { (file : List ℕ) (rules : List Rule) → IsExplainerOf file rules self.now
             → IfOk result (λ mismatch. IfSome (start_name rules (start_named options.now))
-            (λ start. IsMismatchIn file rules self.now.style text.now start mismatch)) }
+            (λ start. IsMismatchIn rules self.now.style text.now start mismatch)) }
         ensures in_text { IfOk result (λ found. IfSome found (λ mismatch. mismatch.at ≤ length text.now)) }
         ensures few { IfOk result (λ found. IfSome found (λ mismatch. length mismatch.expected.items < 2 ^ 32)) }
         ensures limited { (file : List ℕ) (rules : List Rule) → IsExplainerOf file rules self.now
@@ -155,13 +157,13 @@ impl<'a> Explainer<'a> {
             Some(blames) => {
                 let answer = blames.blame(alloc, text, options)?;
                 let expected = self.items_by_blame(alloc, blames, text, options, &answer)?;
-                Ok(mismatch_in(text, &answer.outcome, expected))
+                Ok(mismatch_in(text, &answer.outcome, expected, Analysis::Items))
             }
             None => {
                 let answer = self.parser.parse(alloc, text, options)?;
                 let spans = spans_of_terminals(alloc, self.parser, &answer.outcome)?;
                 let expected = unnamed_items(alloc, &spans)?;
-                Ok(mismatch_in(text, &answer.outcome, expected))
+                Ok(mismatch_in(text, &answer.outcome, expected, Analysis::Tests))
             }
         }
     }
@@ -176,11 +178,12 @@ impl<'a> Explainer<'a> {
         answer: &Answer,
     ) -> Result<Vec<ExpectedItem>, ParseFault>
         requires short { length text.now ≤ max_text_bytes }
+        requires in_text { IsInText text.now answer.now.outcome }
         ensures items { (rules : List Rule) (start : List ℕ) → IsBlameParserOf rules blames.now
             → parser_rules self.now.parser.now ≡ rules
             → start_name rules (start_named options.now) ≡ Some start
             → (is : IsBlameOutcome rules text.now start answer.now.outcome)
-            → IfOk result (λ items. AreItemsFor self.now.file.now rules self.now.style text.now answer.now.outcome
+            → IfOk result (λ items. AreItemsFor rules self.now.style text.now answer.now.outcome
             is.blame.calls (map fact_of items.items)) }
         ensures few { IfOk result (λ items. length items.items < 2 ^ 32) }
         ensures no_start { (rules : List Rule) → IsBlameParserOf rules blames.now
@@ -199,9 +202,9 @@ impl<'a> Explainer<'a> {
             return Ok(Vec::new(alloc));
         }
         let items = Items {
-            file: self.file,
             spans: blames.items(),
             rules: blames.item_rules(),
+            kinds: blames.item_kinds(),
         };
         let rests = self.rests_for(alloc, blames, &items, text, options, answer)?;
         Ok(items_of_failure(alloc, &items, &rests, outcome)?)
@@ -218,13 +221,13 @@ impl<'a> Explainer<'a> {
         answer: &Answer,
     ) -> Result<Vec<Rest>, ParseFault>
         requires short { length text.now ≤ max_text_bytes }
-        requires file { items.now.file.now ≡ self.now.file.now }
+        requires in_text { IsInText text.now answer.now.outcome }
         ensures rests { (rules : List Rule) (start : List ℕ) (blame : Record) → IsBlameParserOf rules blames.now
             → parser_rules self.now.parser.now ≡ rules
-            → map extent items.now.spans.now ≡ extents_of_items rules → items.now.rules.now ≡ rules_of_items rules
+            → items.now.rules.now ≡ rules_of_items rules → items.now.kinds.now ≡ kinds_of_items rules
             → start_name rules (start_named options.now) ≡ Some start → StartHasBlame rules text.now start blame
-            → IfOk result (λ rests. AreRestsBy self.now.style.uses_names self.now.file.now rules text.now blame.calls
-            (min (named_position answer.now.outcome.result answer.now.outcome.far) (length text.now))
+            → IfOk result (λ rests. AreRestsBy self.now.style.uses_names rules text.now blame.calls
+            (named_position answer.now.outcome.result answer.now.outcome.far)
             (take 64 answer.now.outcome.expected.items) rests.items) }
         ensures no_start { (rules : List Rule) → IsBlameParserOf rules blames.now
             → parser_rules self.now.parser.now ≡ rules
@@ -240,7 +243,7 @@ impl<'a> Explainer<'a> {
         if !self.style.uses_names {
             return Ok(Vec::new(alloc));
         }
-        let at = position_in(text, &answer.outcome);
+        let at = named_position(&answer.outcome);
         let called = called_rules(alloc, blames, text, options, answer.steps, at)?;
         let naming = Naming {
             blames,
@@ -280,6 +283,7 @@ impl<'a> Explainer<'a> {
         };
         let mut message = Vec::new(alloc);
         failure.write(alloc, &mut message)?;
+        write_note(mismatch.analysis, &mut message)?;
         Ok(message)
     }
 
@@ -357,22 +361,19 @@ fn called_rules(
     }
 }
 
-// Returns the position that a message names, which is within the text.
-fn position_in(text: &[u8], outcome: &Outcome) -> u32
-    requires { length text.now ≤ max_text_bytes }
-    ensures { result ≡ min (named_position outcome.now.result outcome.now.far) (length text.now) }
-{
-    named_position(outcome).min(text.len() as u32)
-}
-
 // Returns the mismatch of an outcome, where these items are expected.
-fn mismatch_in(text: &[u8], outcome: &Outcome, expected: Vec<ExpectedItem>) -> Option<Mismatch>
-    requires short { length text.now ≤ max_text_bytes }
+fn mismatch_in(
+    text: &[u8],
+    outcome: &Outcome,
+    expected: Vec<ExpectedItem>,
+    analysis: Analysis,
+) -> Option<Mismatch>
+    requires in_text { IsInText text.now outcome.now }
     requires few { length expected.items < 2 ^ 32 }
-    ensures mismatch { (file : List ℕ) (facts : ItemFacts)
+    ensures mismatch { (facts : ItemFacts) → facts.analysis ≡ analysis
         → (is_whole_match outcome.now.result (length text.now) ≡ false
-        → map fact_of expected.items ≡ expected_items file facts outcome.now)
-        → HasMismatch file facts text.now outcome.now result }
+        → map fact_of expected.items ≡ expected_items facts outcome.now)
+        → HasMismatch facts text.now outcome.now result }
     ensures in_text { IfSome result (λ mismatch. mismatch.at ≤ length text.now) }
     ensures few { IfSome result (λ mismatch. length mismatch.expected.items < 2 ^ 32) }
 {
@@ -380,8 +381,19 @@ fn mismatch_in(text: &[u8], outcome: &Outcome, expected: Vec<ExpectedItem>) -> O
         return None;
     }
     Some(Mismatch {
-        at: position_in(text, outcome),
+        at: named_position(outcome),
         expected,
         is_end_expected: is_end_expected(outcome),
+        analysis,
     })
+}
+
+// Writes the note at the end of a message, if terminals in predicates count.
+fn write_note(analysis: Analysis, out: &mut Vec<u8>) -> Result<(), AllocError>
+    ensures { OnOk result (out.new.items ≡ out.old.items ++ note_text analysis) }
+{
+    match analysis {
+        Analysis::Items => Ok(()),
+        Analysis::Tests => out.extend_from_slice(b"note: failures in predicates are included\n"),
+    }
 }

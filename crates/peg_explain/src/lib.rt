@@ -10,6 +10,6 @@ mod refusals;
 mod style;
 
 pub use explainer::Explainer;
-pub use mismatch::{ExpectedItem, Mismatch};
+pub use mismatch::{Analysis, ExpectedItem, Mismatch};
 pub use refusals::refusal_message;
 pub use style::ItemStyle;

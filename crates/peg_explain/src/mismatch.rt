@@ -10,6 +10,17 @@ pub struct Mismatch {
     pub expected: Vec<ExpectedItem>,
     /// Whether the end of the text is expected there, too.
     pub is_end_expected: bool,
+    /// The failures that were analysed.
+    pub analysis: Analysis,
+}
+
+/// Which failures are analysed to find a mismatch.
+#[derive(Clone, Copy, Debug, PartialEq, Eq)]
+pub enum Analysis {
+    /// The failures of items outside predicates.
+    Items,
+    /// The failed tests of all terminals, also in predicates. It is used if the diagnostic grammar is over a limit.
+    Tests,
 }
 
 /// An item that is expected at the offset of a mismatch.

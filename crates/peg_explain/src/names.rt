@@ -11,7 +11,7 @@ ghost use Rattle.peg_semantics.specs.Rules.{Rule, name_of};
 ghost use Rattle.peg_explain.specs.Names.{AreRests, CanBeNamed, has_rest, stands_for};
 ghost use Rattle.peg_explain.specs.Namings.{IsNamingAt};
 
-use crate::expected::{Items, is_class_or_dot, span_at};
+use crate::expected::{Items, is_class_or_dot};
 use peg_blame::BlameParser;
 use peg_grammar::Grammar;
 use peg_parser::{ParseFault, ParseOptions};
@@ -85,9 +85,9 @@ impl Naming<'_> {
     /// Parses the rest of the text from each rule that can name one of these items, once. The only error is a failed
     /// allocation.
     pub(crate) fn rests(&self, alloc: Global, numbers: &[u32]) -> Result<Vec<Rest>, ParseFault>
-        ensures rests { (file : List ℕ) (rules : List Rule) (text : List ℕ) (calls : List RuleCall) (at : ℕ)
-            → IsNamingAt file rules text calls at self.now
-            → IfOk result (λ rests. AreRests file rules text calls at numbers.now rests.items) }
+        ensures rests { (rules : List Rule) (text : List ℕ) (calls : List RuleCall) (at : ℕ)
+            → IsNamingAt rules text calls at self.now
+            → IfOk result (λ rests. AreRests rules text calls at numbers.now rests.items) }
         ensures memory { (rules : List Rule) → IsBlameParserOf rules self.now.blames.now
             → rules_in self.now.grammar.now ≡ rules → length self.now.rest.now ≤ max_text_bytes
             → IfErr result (λ why. why ≡ ParseFault.Memory) }
@@ -105,17 +105,17 @@ impl Naming<'_> {
     // Returns the rule that can name an item, if the rest wasn't parsed from it yet.
     fn next_rule(&self, rests: &[Rest], number: u32) -> Option<u32>
         ensures within { IfSome result (λ rule. rule < length (rules_in self.now.grammar.now)) }
-        ensures found { (file : List ℕ) (rules : List Rule) (text : List ℕ) (calls : List RuleCall) (at : ℕ)
-            → IsNamingAt file rules text calls at self.now
-            → IfSome result (CanBeNamed file rules calls at number) }
-        ensures done { (file : List ℕ) (rules : List Rule) (text : List ℕ) (calls : List RuleCall) (at rule : ℕ)
-            → IsNamingAt file rules text calls at self.now → result ≡ None
-            → CanBeNamed file rules calls at number rule → has_rest rests.now rule ≡ true }
+        ensures found { (rules : List Rule) (text : List ℕ) (calls : List RuleCall) (at : ℕ)
+            → IsNamingAt rules text calls at self.now
+            → IfSome result (CanBeNamed rules calls at number) }
+        ensures done { (rules : List Rule) (text : List ℕ) (calls : List RuleCall) (at rule : ℕ)
+            → IsNamingAt rules text calls at self.now → result ≡ None
+            → CanBeNamed rules calls at number rule → has_rest rests.now rule ≡ true }
     {
         let rule = *self.items.rules.get(number as usize)?;
         let can_name = rule < self.grammar.rules()
             && self.called.contains(rule)
-            && is_class_or_dot(self.items.file, span_at(self.items.spans, number));
+            && is_class_or_dot(self.items.kinds, number);
         if can_name && !has_rest(rests, rule) {
             Some(rule)
         } else {

@@ -1,5 +1,6 @@
 //! What a message says of an outcome.
-ghost use Rattle.std.specs.Prelude.{◌≡◌};
+ghost use Rattle.std.specs.Prelude.{◌≡◌, ◌≤◌, ℕ, List, length};
+ghost use Rattle.peg_blame.specs.InText.{IsInText};
 ghost use Rattle.peg_explain.specs.Reports.{are_items_expected, is_end_expected, is_whole_match, named_position};
 
 use peg_tree::{Outcome, Parsed};
@@ -14,9 +15,10 @@ pub(crate) fn is_whole_match(outcome: &Outcome, bytes: usize) -> bool
     }
 }
 
-/// Returns the position that a message names.
+/// Returns the position that a message names, which is in the text.
 pub(crate) fn named_position(outcome: &Outcome) -> u32
-    ensures { result ≡ named_position outcome.now.result outcome.now.far }
+    ensures named { result ≡ named_position outcome.now.result outcome.now.far }
+    ensures in_text { (text : List ℕ) → IsInText text outcome.now → result ≤ length text }
 {
     match &outcome.result {
         Parsed::Failed => outcome.far,

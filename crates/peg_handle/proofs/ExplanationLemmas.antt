@@ -32,7 +32,7 @@ passed-on P (Err other) why is holds = subst P (sym is) holds
 -- the mismatch in a text from a start, in the style of a handle
 abbrev pub IsMismatchOf : GrammarFile → (text : List ℕ) → Option Mismatch → (from : List ℕ) → Type 0
 IsMismatchOf grammar text mismatch from =
-    IsMismatchIn grammar.bytes.items (parser_rules grammar.parser) named_style text from mismatch
+    IsMismatchIn (parser_rules grammar.parser) named_style text from mismatch
 
 -- a mismatch and what shows it are an explanation
 pub explains : (grammar : GrammarFile) (name text : List ℕ) (found : Option (List ℕ)) (mismatch : Option Mismatch)

@@ -36,7 +36,7 @@ abbrev pub IsExplanationOf : GrammarFile → (name text : List ℕ) → (start :
 IsExplanationOf grammar name text start explanation =
     IfSome (start_name (parser_rules grammar.parser) start) (λ from.
     (mismatch : Option Mismatch)
-    × IsMismatchIn grammar.bytes.items (parser_rules grammar.parser) named_style text from mismatch
+    × IsMismatchIn (parser_rules grammar.parser) named_style text from mismatch
     × Explains grammar.bytes.items (parser_rules grammar.parser) name text mismatch explanation)
 
 -- an explanation without its message

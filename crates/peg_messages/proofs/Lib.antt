@@ -2,3 +2,4 @@ mod CharacterLemmas
 mod ListingLemmas
 mod AppendLemmas
 mod FileNameLemmas
+mod FilteredTexts

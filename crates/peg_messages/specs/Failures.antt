@@ -1,16 +1,26 @@
 -- The message for a text that doesn't match.
-use Rattle.std.specs.Prelude.{ℕ, List, ◌++◌, codes, map}
+use Rattle.std.specs.Prelude.{ℕ, not, List, ◌++◌, codes, filter, map}
 use Rattle.peg_messages.specs.Ends.{end_texts}
 use Rattle.peg_messages.specs.Found.{found_text}
-use Rattle.peg_messages.specs.Items.{item_text}
+use Rattle.peg_messages.specs.Items.{is_end_item, item_text}
 use Rattle.peg_messages.specs.Listing.{listed}
 use Rattle.peg_messages.specs.Places.{place_text}
 use Rattle.peg_messages.specs.Source.{source_lines}
 use Rattle.peg_messages.specs.declared.failure.Failure.{Failure}
+use Rattle.peg_messages.specs.declared.items.Item.{Item}
 
--- what is expected: the items in order, and then the end
+-- the items that expect the end, and the other ones, each in order
+abbrev pub end_items : Failure → List Item
+end_items failure = filter (is_end_item failure.grammar.now) failure.expected.now
+
+abbrev pub other_items : Failure → List Item
+other_items failure = filter (λ item. not (is_end_item failure.grammar.now item)) failure.expected.now
+
+-- what is expected: the end first, so that no number of other items hides it, and then the other items
 abbrev pub expected_texts : Failure → List (List ℕ)
-expected_texts failure = map (item_text failure.grammar.now) failure.expected.now ++ end_texts failure.is_end_expected
+expected_texts failure =
+    end_texts failure.is_end_expected ++ (map (item_text failure.grammar.now) (end_items failure)
+    ++ map (item_text failure.grammar.now) (other_items failure))
 
 -- the place, what is expected and found there, its line, and a caret below it
 abbrev pub failure_message : Failure → List ℕ

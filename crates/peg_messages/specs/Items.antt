@@ -1,5 +1,6 @@
 -- What is expected at a position, as it is written in a message.
-use Rattle.std.specs.Prelude.{ℕ, ◌==◌, if◌then◌else◌, List, [], ◌∷◌, ◌++◌, Option, None, Some, codes, slice_range}
+use Rattle.std.specs.Prelude.{ℕ, ◌==◌, Bool, false, ◌&&◌, if◌then◌else◌, List, [], ◌∷◌, ◌++◌, Option, None, Some}
+use Rattle.std.specs.Prelude.{codes, slice_range}
 use Rattle.std.specs.Option.{option_map}
 use Rattle.std.specs.Str.{bytes_eq}
 use Rattle.peg_bytes.specs.Extent.{Extent, extent}
@@ -21,6 +22,15 @@ negated_text operand =
 abbrev pub spelling_text : List ℕ → List ℕ
 spelling_text [] = []
 spelling_text (byte ∷ rest) = if byte == 33 then negated_text (after_blanks rest) else shown Spelling (byte ∷ rest)
+
+-- the bytes of an expression are the predicate `!.`, which expects the end
+abbrev pub is_end_spelling : List ℕ → Bool
+is_end_spelling [] = false
+is_end_spelling (byte ∷ rest) = byte == 33 && bytes_eq (after_blanks rest) (codes ".")
+
+-- an item of a grammar file is the predicate `!.`
+abbrev pub is_end_item : (grammar : List ℕ) → Item → Bool
+is_end_item grammar item = is_end_spelling (span_bytes grammar (extent item.span))
 
 -- an item by its name if it has one, otherwise by its bytes in the grammar file
 abbrev pub named_text : (spelling : List ℕ) → (name : Option (List ℕ)) → List ℕ

@@ -1,14 +1,15 @@
 -- Why a grammar file is refused, as a sentence of a message.
-use Rattle.std.specs.Prelude.{ℕ, ◌+◌, ◌==◌, Bool, ◌&&◌, ◌||◌, if◌then◌else◌, nat_le}
+use Rattle.std.specs.Prelude.{ℕ, ◌+◌, ◌==◌, if◌then◌else◌}
 use Rattle.std.specs.Prelude.{List, [], ◌∷◌, ◌++◌, codes, drop, length, map, slice_index}
 use Rattle.std.specs.List.{flat_map, take_while}
 use Rattle.peg_messages.specs.Characters.{first_character}
 use Rattle.peg_messages.specs.Found.{found_text}
 use Rattle.peg_messages.specs.Shown.{shown_character}
-use Rattle.peg_messages.specs.SyntaxCauses.{syntax_cause}
+use Rattle.peg_messages.specs.SyntaxCauses.{is_name_byte, syntax_cause}
 use Rattle.peg_messages.specs.declared.causes.SyntaxCause.{SyntaxCause}
 use Rattle.peg_messages.specs.declared.causes.SyntaxCause.TheVariants.{EndsEarly, ByteOrderMark, OpenComment}
-use Rattle.peg_messages.specs.declared.causes.SyntaxCause.TheVariants.{OpenLiteral, OpenClass, BadEscape, NoArrow}
+use Rattle.peg_messages.specs.declared.causes.SyntaxCause.TheVariants.{OpenLiteral, OpenClass, BadEscape, OtherComment}
+use Rattle.peg_messages.specs.declared.causes.SyntaxCause.TheVariants.{Label, BareEscape, Braces, NoBreakSpace, NoArrow}
 use Rattle.peg_messages.specs.declared.causes.SyntaxCause.TheVariants.{Bar, Semicolon, Unexpected}
 use Rattle.peg_messages.specs.declared.reason.Reason.{Reason}
 use Rattle.peg_messages.specs.declared.reason.Reason.TheVariants as reason
@@ -26,12 +27,6 @@ dash_hint rest = if slice_index rest 0 == 45 then codes ": write a dash first in
 abbrev pub escape_sentence : List ℕ → List ℕ
 escape_sentence rest = backslash_text rest ++ codes " isn't an escape" ++ dash_hint rest
 
--- a byte of a name
-abbrev pub is_name_byte : ℕ → Bool
-is_name_byte byte =
-    (nat_le 97 byte && nat_le byte 122) || (nat_le 65 byte && nat_le byte 90)
-    || (nat_le 48 byte && nat_le byte 57) || byte == 95
-
 -- the name with which some bytes begin
 abbrev pub name_from : List ℕ → List ℕ
 name_from rest = take_while is_name_byte rest
@@ -41,6 +36,18 @@ abbrev pub token_text : (file : List ℕ) → (at : ℕ) → List ℕ
 token_text file at =
     if length (name_from (drop at file)) == 0 then found_text file at else name_from (drop at file)
 
+-- what is written in place of a form of other notations
+abbrev pub foreign_sentence : SyntaxCause → List ℕ
+foreign_sentence OtherComment = codes "a comment begins with # and ends with its line"
+foreign_sentence Label = codes "a label isn't in the notation, and a definition is written NAME <- EXPRESSION"
+foreign_sentence BareEscape = codes "an escape stands in a literal or class, as in [\\t]"
+foreign_sentence Braces = codes "a count is written {2} or {2,4}"
+foreign_sentence NoBreakSpace = codes "a no-break space is no spacing: write a space"
+foreign_sentence NoArrow = codes "a definition is written NAME <- EXPRESSION"
+foreign_sentence Bar = codes "alternatives are separated by /, not by |"
+foreign_sentence Semicolon = codes "a definition doesn't end in a semicolon"
+foreign_sentence other = []
+
 -- the cause of a syntax error at an offset
 abbrev pub cause_sentence : (file : List ℕ) → (at : ℕ) → SyntaxCause → List ℕ
 cause_sentence file at EndsEarly = codes "the file ends too early"
@@ -49,10 +56,8 @@ cause_sentence file at OpenComment = codes "this comment has no line end"
 cause_sentence file at OpenLiteral = codes "this literal isn't closed"
 cause_sentence file at OpenClass = codes "this class isn't closed: a bracket after a dash, as in [a-], ends a range"
 cause_sentence file at (BadEscape backslash) = escape_sentence (drop (backslash + 1) file)
-cause_sentence file at NoArrow = codes "a definition is written NAME <- EXPRESSION"
-cause_sentence file at Bar = codes "alternatives are separated by /, not by |"
-cause_sentence file at Semicolon = codes "a definition doesn't end in a semicolon"
 cause_sentence file at Unexpected = codes "unexpected " ++ token_text file at
+cause_sentence file at foreign = foreign_sentence foreign
 
 -- a rule, and what is wrong with it
 abbrev pub rule_sentence : (name what : List ℕ) → List ℕ

@@ -1,12 +1,14 @@
 -- Why a grammar file isn't in the notation, by its bytes from the offset of the error on.
-use Rattle.std.specs.Prelude.{ℕ, ◌+◌, ◌==◌, Bool, true, false, not, ◌&&◌, ◌||◌, if◌then◌else◌, nat_eq, nat_le}
-use Rattle.std.specs.Prelude.{List, [], ◌∷◌, drop, length, slice_index}
+use Rattle.std.specs.Prelude.{ℕ, ◌+◌, ◌-◌, ◌==◌, Bool, true, false, not, ◌&&◌, ◌||◌, if◌then◌else◌, nat_eq, nat_le}
+use Rattle.std.specs.Prelude.{List, [], ◌∷◌, drop, is_none, length, slice_index}
 use Rattle.std.specs.List.{starts_with}
 use Rattle.peg_lexer.specs.Lexical.{classed_range, quoted_char}
+use Rattle.peg_lexer.specs.LexicalCode.{count_in_range}
 use Rattle.peg_lexer.specs.Matchers.{many}
 use Rattle.peg_messages.specs.declared.causes.SyntaxCause.{SyntaxCause}
 use Rattle.peg_messages.specs.declared.causes.SyntaxCause.TheVariants.{EndsEarly, ByteOrderMark, OpenComment}
-use Rattle.peg_messages.specs.declared.causes.SyntaxCause.TheVariants.{OpenLiteral, OpenClass, BadEscape, NoArrow}
+use Rattle.peg_messages.specs.declared.causes.SyntaxCause.TheVariants.{OpenLiteral, OpenClass, BadEscape, OtherComment}
+use Rattle.peg_messages.specs.declared.causes.SyntaxCause.TheVariants.{Label, BareEscape, Braces, NoBreakSpace, NoArrow}
 use Rattle.peg_messages.specs.declared.causes.SyntaxCause.TheVariants.{Bar, Semicolon, Unexpected}
 
 -- a literal or class without a closing byte
@@ -38,10 +40,20 @@ is_other_arrow rest =
     || (slice_index rest 0 == 45 && slice_index rest 1 == 62)
     || (slice_index rest 0 == 60 && not (slice_index rest 1 == 45))
 
--- the cause at other bytes: `#` is 35, `|` is 124 and `;` is 59
+-- an opening brace, 123, that begins no count, such as `{2}` or `{2,4}`
+abbrev pub is_other_brace : List ℕ → Bool
+is_other_brace rest = slice_index rest 0 == 123 && is_none (count_in_range rest)
+
+-- the bytes C2 A0
+abbrev pub is_no_break_space : List ℕ → Bool
+is_no_break_space rest = slice_index rest 0 == 194 && slice_index rest 1 == 160
+
+-- the cause at other bytes: `#` is 35, a backslash 92, `|` is 124 and `;` is 59
 abbrev pub token_cause : (rest : List ℕ) → SyntaxCause
 token_cause rest =
-    if slice_index rest 0 == 35 then OpenComment else if is_other_arrow rest then NoArrow else
+    if slice_index rest 0 == 35 then OpenComment else if slice_index rest 0 == 92 then BareEscape else
+    if is_other_brace rest then Braces else if is_no_break_space rest then NoBreakSpace else
+    if is_other_arrow rest then NoArrow else
     if slice_index rest 0 == 124 then Bar else if slice_index rest 0 == 59 then Semicolon else Unexpected
 
 -- the cause at an offset: quotes are 39 and 34, brackets are 91 and 93
@@ -55,8 +67,34 @@ cause_from at rest =
 abbrev pub is_at_mark : (file : List ℕ) → (at : ℕ) → Bool
 is_at_mark file at = at == 0 && starts_with nat_eq file (239 ∷ 187 ∷ 191 ∷ [])
 
+-- the byte before an offset, or 0 at the start
+abbrev pub byte_before : (file : List ℕ) → (at : ℕ) → ℕ
+byte_before file at = if at == 0 then 0 else slice_index file (at - 1)
+
+-- `/*` or `//` at an offset, or a star after a slash: `/` is 47 and `*` is 42
+abbrev pub is_other_comment : (file : List ℕ) → (at : ℕ) → Bool
+is_other_comment file at =
+    (slice_index file at == 47 && (slice_index file (at + 1) == 42 || slice_index file (at + 1) == 47))
+    || (slice_index file at == 42 && byte_before file at == 47)
+
+-- a byte of a name
+abbrev pub is_name_byte : ℕ → Bool
+is_name_byte byte =
+    (nat_le 97 byte && nat_le byte 122) || (nat_le 65 byte && nat_le byte 90)
+    || (nat_le 48 byte && nat_le byte 57) || byte == 95
+
+-- a printable byte but `:` and `=`, which could end another sign for the arrow
+abbrev pub can_be_labelled : ℕ → Bool
+can_be_labelled byte = nat_le 33 byte && not (byte == 58) && not (byte == 61)
+
+-- a colon between a name and an expression, without a blank
+abbrev pub is_label : (file : List ℕ) → (at : ℕ) → Bool
+is_label file at =
+    slice_index file at == 58 && is_name_byte (byte_before file at) && can_be_labelled (slice_index file (at + 1))
+
 -- why a grammar file isn't in the notation at an offset
 abbrev pub syntax_cause : (file : List ℕ) → (at : ℕ) → SyntaxCause
 syntax_cause file at =
     if nat_le (length file) at then EndsEarly else if is_at_mark file at then ByteOrderMark else
+    if is_other_comment file at then OtherComment else if is_label file at then Label else
     cause_from at (drop at file)

@@ -2,7 +2,8 @@
 use Rattle.std.specs.Prelude.{ℕ, ◌<◌, ⊤}
 use Rattle.peg_messages.specs.declared.causes.SyntaxCause.{SyntaxCause}
 use Rattle.peg_messages.specs.declared.causes.SyntaxCause.TheVariants.{EndsEarly, ByteOrderMark, OpenComment}
-use Rattle.peg_messages.specs.declared.causes.SyntaxCause.TheVariants.{OpenLiteral, OpenClass, BadEscape, NoArrow}
+use Rattle.peg_messages.specs.declared.causes.SyntaxCause.TheVariants.{OpenLiteral, OpenClass, BadEscape, OtherComment}
+use Rattle.peg_messages.specs.declared.causes.SyntaxCause.TheVariants.{Label, BareEscape, Braces, NoBreakSpace, NoArrow}
 use Rattle.peg_messages.specs.declared.causes.SyntaxCause.TheVariants.{Bar, Semicolon, Unexpected}
 
 -- the offset of a cause, if it has one, is below this
@@ -13,6 +14,11 @@ IsBelow end OpenComment = ⊤
 IsBelow end OpenLiteral = ⊤
 IsBelow end OpenClass = ⊤
 IsBelow end (BadEscape at) = at < end
+IsBelow end OtherComment = ⊤
+IsBelow end Label = ⊤
+IsBelow end BareEscape = ⊤
+IsBelow end Braces = ⊤
+IsBelow end NoBreakSpace = ⊤
 IsBelow end NoArrow = ⊤
 IsBelow end Bar = ⊤
 IsBelow end Semicolon = ⊤

@@ -15,6 +15,16 @@ pub enum SyntaxCause {
     OpenClass,
     /// The backslash at this offset begins no escape.
     BadEscape { at: u32 },
+    /// A comment begins with `/*` or `//`.
+    OtherComment,
+    /// A name with a colon labels an expression.
+    Label,
+    /// A backslash is written outside literals and classes.
+    BareEscape,
+    /// Braces hold something else than a count.
+    Braces,
+    /// A no-break space is written outside literals, classes and comments.
+    NoBreakSpace,
     /// `=`, `:`, `->` or `<` is written in place of the arrow of a definition.
     NoArrow,
     /// A bar separates alternatives.

@@ -5,7 +5,7 @@ ghost use Rattle.peg_messages.specs.Ends.{end_texts};
 ghost use Rattle.peg_messages.specs.Listings.{IsListing, bytes_of_each};
 
 use crate::found::write_found;
-use crate::items::{Item, item_text};
+use crate::items::{Item, is_end_item, item_text};
 use crate::listing::Listing;
 use crate::numbers::write_place;
 use crate::source::write_source;
@@ -36,8 +36,9 @@ impl Failure<'_> {
     /// position and a caret below the position. Each line ends with LF.
     ///
     /// An item is written as in the grammar file. The predicate `!e` is written `no e`, and `!.` is `the end`, like the
-    /// end of the text if it is expected. Equal items are written once, and at most eight are written; then `N more`
-    /// counts the others. An item is compared only with the first 64 different ones. Further items are counted each.
+    /// end of the text if it is expected. The end is written first, so that no number of other items hides it. Equal
+    /// items are written once, and at most eight are written; then `N more` counts the others. An item is compared only
+    /// with the first 64 different ones. Further items are counted each.
     ///
     /// Bytes that are neither printable ASCII nor UTF-8 are written as escapes of the notation. At most 120 bytes of
     /// the line are shown, the first of them 80 before the position. A tab of the line stays a tab, and so does the blank
@@ -105,10 +106,17 @@ impl Failure<'_> {
         ensures { IfOk result (λ listing. IsListed (expected_texts self.now) listing) }
     {
         let mut listing = Listing::new(alloc);
-        'items: for item in self.expected {
-            listing.add(item_text(alloc, self.grammar, item)?)?;
-        }
         add_end(alloc, self.is_end_expected, &mut listing)?;
+        'ends: for item in self.expected {
+            if is_end_item(self.grammar, item) {
+                listing.add(item_text(alloc, self.grammar, item)?)?;
+            }
+        }
+        'others: for item in self.expected {
+            if !is_end_item(self.grammar, item) {
+                listing.add(item_text(alloc, self.grammar, item)?)?;
+            }
+        }
         Ok(listing)
     }
 }
@@ -116,9 +124,9 @@ impl Failure<'_> {
 // Adds the end of the text, if it is expected.
 fn add_end(alloc: Global, is_expected: bool, listing: &mut Listing) -> Result<(), AllocError>
     requires { listing.old.others < 2 ^ 33 }
-    ensures listing { OnOk result ((all : List (List ℕ))
-        → IsListing (bytes_of_each listing.old.kept.items) listing.old.others (end_texts is_expected) all
-        → IsListing (bytes_of_each listing.new.kept.items) listing.new.others [] all) }
+    ensures listing { OnOk result ((rest all : List (List ℕ))
+        → IsListing (bytes_of_each listing.old.kept.items) listing.old.others (end_texts is_expected ++ rest) all
+        → IsListing (bytes_of_each listing.new.kept.items) listing.new.others rest all) }
     ensures others { listing.new.others ≤ listing.old.others + 1 }
 {
     if is_expected {

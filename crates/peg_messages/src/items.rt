@@ -2,7 +2,8 @@
 ghost use Rattle.std.specs.Prelude.{◌≡◌, ◌++◌, IfOk, OnOk};
 ghost use Rattle.std.specs.Option.{option_map};
 ghost use Rattle.peg_bytes.specs.Extent.{extent};
-ghost use Rattle.peg_messages.specs.Items.{span_bytes, item_text, named_text, negated_text, rule_text, spelling_text};
+ghost use Rattle.peg_messages.specs.Items.{is_end_item, item_text, named_text, negated_text, rule_text, span_bytes};
+ghost use Rattle.peg_messages.specs.Items.{spelling_text};
 
 use crate::blanks::after_blanks;
 use crate::shown::{Style, write_shown};
@@ -19,6 +20,16 @@ pub struct Item<'a> {
     pub rule: Option<&'a str>,
     /// A name that is written in place of the expression.
     pub name: Option<&'a str>,
+}
+
+/// Returns whether an item is the predicate `!.`, which expects the end. Takes time linear in its span.
+pub(crate) fn is_end_item(grammar: &[u8], item: &Item<'_>) -> bool
+    ensures { result ≡ is_end_item grammar.now item.now }
+{
+    match span_bytes(grammar, item.span) {
+        [b'!', rest @ ..] => after_blanks(rest) == b".".as_slice(),
+        _ => false,
+    }
 }
 
 /// Returns an item as it is written in a message. Takes time linear in its span.

@@ -102,6 +102,11 @@ fn cause_offset(file: &[u8], at: u32) -> u32
         | SyntaxCause::OpenComment
         | SyntaxCause::OpenLiteral
         | SyntaxCause::OpenClass
+        | SyntaxCause::OtherComment
+        | SyntaxCause::Label
+        | SyntaxCause::BareEscape
+        | SyntaxCause::Braces
+        | SyntaxCause::NoBreakSpace
         | SyntaxCause::NoArrow
         | SyntaxCause::Bar
         | SyntaxCause::Semicolon

@@ -3,7 +3,7 @@ ghost use Rattle.std.specs.Prelude.{◌≡◌, ◌≤◌, ◌<◌, ◌+◌, ◌+
 ghost use Rattle.std.specs.List.{flat_map};
 ghost use Rattle.peg_bytes.specs.Place.{max_offset};
 ghost use Rattle.peg_messages.specs.Sentences.{arrowed, backslash_text, cause_sentence, dash_hint, escape_sentence};
-ghost use Rattle.peg_messages.specs.Sentences.{is_name_byte, name_from, path_text, reason_sentence};
+ghost use Rattle.peg_messages.specs.Sentences.{foreign_sentence, name_from, path_text, reason_sentence};
 ghost use Rattle.peg_messages.specs.Sentences.{rule_sentence, token_text};
 
 use crate::bytes::{byte_at, bytes_after};
@@ -13,7 +13,7 @@ use crate::found::write_found;
 use crate::reason::Reason;
 use crate::shown::{Style, write_character};
 use crate::source::part_of;
-use crate::syntax::syntax_cause;
+use crate::syntax::{is_name_byte, syntax_cause};
 use std::alloc::AllocError;
 
 /// Writes why a grammar file is refused.
@@ -73,14 +73,39 @@ fn write_cause(
             bytes_after(file, at as usize + 1),
             out,
         ),
-        SyntaxCause::NoArrow => {
-            out.extend_from_slice(b"a definition is written NAME <- EXPRESSION")
-        }
-        SyntaxCause::Bar => out.extend_from_slice(b"alternatives are separated by /, not by |"),
-        SyntaxCause::Semicolon => {
-            out.extend_from_slice(b"a definition doesn't end in a semicolon")
-        }
         SyntaxCause::Unexpected => write_unexpected(file, at, out),
+        SyntaxCause::OtherComment
+        | SyntaxCause::Label
+        | SyntaxCause::BareEscape
+        | SyntaxCause::Braces
+        | SyntaxCause::NoBreakSpace
+        | SyntaxCause::NoArrow
+        | SyntaxCause::Bar
+        | SyntaxCause::Semicolon => out.extend_from_slice(foreign_sentence(cause)),
+    }
+}
+
+// Returns what is written in place of a form of other notations, or nothing for other causes.
+fn foreign_sentence<'a>(cause: SyntaxCause) -> &'a [u8]
+    ensures { result.now ≡ foreign_sentence cause }
+{
+    match cause {
+        SyntaxCause::OtherComment => b"a comment begins with # and ends with its line",
+        SyntaxCause::Label =>
+            b"a label isn't in the notation, and a definition is written NAME <- EXPRESSION",
+        SyntaxCause::BareEscape => b"an escape stands in a literal or class, as in [\\t]",
+        SyntaxCause::Braces => b"a count is written {2} or {2,4}",
+        SyntaxCause::NoBreakSpace => b"a no-break space is no spacing: write a space",
+        SyntaxCause::NoArrow => b"a definition is written NAME <- EXPRESSION",
+        SyntaxCause::Bar => b"alternatives are separated by /, not by |",
+        SyntaxCause::Semicolon => b"a definition doesn't end in a semicolon",
+        SyntaxCause::EndsEarly
+        | SyntaxCause::ByteOrderMark
+        | SyntaxCause::OpenComment
+        | SyntaxCause::OpenLiteral
+        | SyntaxCause::OpenClass
+        | SyntaxCause::BadEscape { .. }
+        | SyntaxCause::Unexpected => b"",
     }
 }
 
@@ -113,15 +138,6 @@ fn name_from(rest: &[u8]) -> &[u8]
         }
     }
     rest
-}
-
-fn is_name_byte(byte: u8) -> bool
-    ensures { result ≡ is_name_byte byte }
-{
-    (97 <= byte && byte <= 122)
-        || (65 <= byte && byte <= 90)
-        || (48 <= byte && byte <= 57)
-        || byte == b'_'
 }
 
 // Writes that the bytes after a backslash begin no escape.

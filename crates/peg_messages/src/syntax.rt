@@ -1,13 +1,15 @@
 //! Finding why a grammar file isn't in the notation.
 ghost use Rattle.std.specs.Prelude.{◌≡◌, ◌+◌, ◌<◌, ◌≤◌, length};
 ghost use Rattle.peg_bytes.specs.Place.{max_offset};
-ghost use Rattle.peg_messages.specs.SyntaxCauses.{cause_from, inside_length, is_at_mark, is_other_arrow, open_cause};
-ghost use Rattle.peg_messages.specs.SyntaxCauses.{opened_cause, syntax_cause, token_cause};
+ghost use Rattle.peg_messages.specs.SyntaxCauses.{byte_before, can_be_labelled, cause_from, inside_length, is_at_mark};
+ghost use Rattle.peg_messages.specs.SyntaxCauses.{is_label, is_name_byte, is_no_break_space, is_other_arrow};
+ghost use Rattle.peg_messages.specs.SyntaxCauses.{is_other_brace, is_other_comment, open_cause, opened_cause};
+ghost use Rattle.peg_messages.specs.SyntaxCauses.{syntax_cause, token_cause};
 ghost use Rattle.peg_messages.specs.SyntaxCausesCode.{IsBelow};
 
 use crate::bytes::{byte_at, bytes_after};
 use crate::causes::SyntaxCause;
-use peg_lexer::{chars_before, ranges_before_bracket};
+use peg_lexer::{chars_before, count_bounds, ranges_before_bracket};
 
 /// Returns why a grammar file isn't in the notation, given the offset at which it is refused. Takes time linear in the
 /// literal or class that begins there.
@@ -22,6 +24,12 @@ pub fn syntax_cause(file: &[u8], at: u32) -> SyntaxCause
     if is_at_mark(file, at) {
         return SyntaxCause::ByteOrderMark;
     }
+    if is_other_comment(file, at) {
+        return SyntaxCause::OtherComment;
+    }
+    if is_label(file, at) {
+        return SyntaxCause::Label;
+    }
     cause_from(at, &file[at as usize..])
 }
 
@@ -30,6 +38,51 @@ fn is_at_mark(file: &[u8], at: u32) -> bool
     ensures { result ≡ is_at_mark file.now at }
 {
     at == 0 && file.starts_with(b"\xEF\xBB\xBF")
+}
+
+// Returns whether `/*` or `//` is at an offset, or a star after a slash.
+fn is_other_comment(file: &[u8], at: u32) -> bool
+    ensures { result ≡ is_other_comment file.now at }
+{
+    let (here, next) = (byte_at(file, at as usize), byte_at(file, at as usize + 1));
+    (here == b'/' && (next == b'*' || next == b'/'))
+        || (here == b'*' && byte_before(file, at) == b'/')
+}
+
+// Returns whether a colon is at an offset, between a name and an expression without a blank.
+fn is_label(file: &[u8], at: u32) -> bool
+    ensures { result ≡ is_label file.now at }
+{
+    byte_at(file, at as usize) == b':'
+        && is_name_byte(byte_before(file, at))
+        && can_be_labelled(byte_at(file, at as usize + 1))
+}
+
+// Returns the byte before an offset, or 0 at the start.
+fn byte_before(file: &[u8], at: u32) -> u8
+    ensures { result ≡ byte_before file.now at }
+{
+    if at == 0 {
+        return 0;
+    }
+    byte_at(file, at as usize - 1)
+}
+
+// Returns whether a label before this byte would be one of other notations.
+fn can_be_labelled(byte: u8) -> bool
+    ensures { result ≡ can_be_labelled byte }
+{
+    33 <= byte && byte != b':' && byte != b'='
+}
+
+/// Returns whether a name may have this byte.
+pub(crate) fn is_name_byte(byte: u8) -> bool
+    ensures { result ≡ is_name_byte byte }
+{
+    (97 <= byte && byte <= 122)
+        || (65 <= byte && byte <= 90)
+        || (48 <= byte && byte <= 57)
+        || byte == b'_'
 }
 
 // Returns the cause at an offset, from which on the file has these bytes.
@@ -98,11 +151,28 @@ fn token_cause(rest: &[u8]) -> SyntaxCause
 {
     match byte_at(rest, 0) {
         b'#' => SyntaxCause::OpenComment,
+        b'\\' => SyntaxCause::BareEscape,
+        _ if is_other_brace(rest) => SyntaxCause::Braces,
+        _ if is_no_break_space(rest) => SyntaxCause::NoBreakSpace,
         _ if is_other_arrow(rest) => SyntaxCause::NoArrow,
         b'|' => SyntaxCause::Bar,
         b';' => SyntaxCause::Semicolon,
         _ => SyntaxCause::Unexpected,
     }
+}
+
+// Returns whether some bytes begin with a brace, and with no count.
+fn is_other_brace(rest: &[u8]) -> bool
+    ensures { result ≡ is_other_brace rest.now }
+{
+    byte_at(rest, 0) == b'{' && count_bounds(rest).is_none()
+}
+
+// Returns whether some bytes begin with a no-break space.
+fn is_no_break_space(rest: &[u8]) -> bool
+    ensures { result ≡ is_no_break_space rest.now }
+{
+    byte_at(rest, 0) == 0xC2 && byte_at(rest, 1) == 0xA0
 }
 
 // Returns whether some bytes begin with another sign for the arrow of a definition.

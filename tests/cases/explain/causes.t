@@ -156,3 +156,77 @@ A parenthesis is closed that isn't open, as the last token of the file.
   A <- 'x')
           ^
   [2]
+
+Forms of other notations have sentences of their own. A comment of C has the same one wherever it is refused.
+
+  $ printf "/* rules */\nA <- 'x'" > g
+  $ pegtool explain g
+  g:1:1: a comment begins with # and ends with its line
+  /* rules */
+  ^
+  [2]
+  $ printf "// rules\nA <- 'x'" > g
+  $ pegtool explain g
+  g:1:1: a comment begins with # and ends with its line
+  // rules
+  ^
+  [2]
+  $ printf "A <- 'x' /* an x */" > g
+  $ pegtool explain g
+  g:1:11: a comment begins with # and ends with its line
+  A <- 'x' /* an x */
+            ^
+  [2]
+
+A star after a slash and a blank is no comment, so it is only unexpected.
+
+  $ printf "A <- 'x' / * 'y'" > g
+  $ pegtool explain g
+  g:1:12: unexpected '*'
+  A <- 'x' / * 'y'
+             ^
+  [2]
+
+A name with a colon is a label of PEG.js, unless a blank follows.
+
+  $ printf "A <- first:'x'" > g
+  $ pegtool explain g
+  g:1:11: a label isn't in the notation, and a definition is written NAME <- EXPRESSION
+  A <- first:'x'
+            ^
+  [2]
+  $ printf "A: 'x'" > g
+  $ pegtool explain g
+  g:1:2: a definition is written NAME <- EXPRESSION
+  A: 'x'
+   ^
+  [2]
+
+A backslash begins no token outside literals and classes, and braces hold only counts.
+
+  $ printf 'A <- \\d+' > g
+  $ pegtool explain g
+  g:1:6: an escape stands in a literal or class, as in [\t]
+  A <- \d+
+       ^
+  [2]
+  $ printf "A <- 'x'{2,}" > g
+  $ pegtool explain g
+  g:1:9: a count is written {2} or {2,4}
+  A <- 'x'{2,}
+          ^
+  [2]
+  $ printf "A <- 'x' { return 1 }" > g
+  $ pegtool explain g
+  g:1:10: a count is written {2} or {2,4}
+  A <- 'x' { return 1 }
+           ^
+  [2]
+
+A no-break space looks like a space, so it is named.
+
+  $ printf "A <-\302\240'x'" > g
+  $ pegtool explain g | cat -A
+  g:1:5: a no-break space is no spacing: write a space$
+  A <-M-BM- 'x'$
+      ^$

@@ -7,7 +7,7 @@ Three terminals are in a predicate, and two are outside.
 In the predicate `'c'` fails at the third byte, but outside `'d'` fails at the second one, where the match ends.
 
   $ printf abx > t.txt; pegtool explain guarded.peg t.txt
-  t.txt:1:2: expected 'd' or the end, found 'b'
+  t.txt:1:2: expected the end or 'd', found 'b'
   abx
    ^
   [1]

@@ -107,6 +107,7 @@ The counts make 520,200 tests of a byte; items with their rules would need over 
   t:1:1: expected 'a', found 'b'
   b
   ^
+  note: failures in predicates are included
   [1]
 
 A small grammar has items with their rules, on the same text.

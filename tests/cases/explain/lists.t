@@ -1,13 +1,15 @@
-How explain lists what is expected: different items once, in the order of the grammar file, and at most eight. An
-optional choice matches the empty string, so that the end is expected, too.
+How explain lists what is expected: first the end, then different items once, in the order of the grammar file, and at
+most eight. An optional choice matches the empty string, so that the end is expected, too.
 
-A grammar that is too large for its items fails by a predicate, in which no terminal fails.
+A grammar that is too large for its items fails by a predicate, in which no terminal fails. A note says which failures
+count.
 
   $ printf "S <- !'a' (('a'{255}){255}){8}" > g; printf a > t
   $ pegtool explain g t
   t:1:1: expected something else, found 'a'
   a
   ^
+  note: failures in predicates are included
   [1]
 
 The empty literal matches the empty string, so only the end is expected at the first byte.
@@ -35,7 +37,7 @@ One, two or three items are separated by a comma and by the last or.
   [1]
   $ printf "S <- 'a'?" > g; printf z > t
   $ pegtool explain g t
-  t:1:1: expected 'a' or the end, found 'z'
+  t:1:1: expected the end or 'a', found 'z'
   z
   ^
   [1]
@@ -56,7 +58,7 @@ An item that is written the same as an earlier one is left out.
   [1]
   $ printf "S <- ('a' / 'b' / 'a')?" > g; printf z > t
   $ pegtool explain g t
-  t:1:1: expected 'a', 'b' or the end, found 'z'
+  t:1:1: expected the end, 'a' or 'b', found 'z'
   z
   ^
   [1]
@@ -77,7 +79,7 @@ Eight different items are listed; of nine the last one is only counted.
   [1]
   $ printf "S <- ('a' / 'b' / 'c' / 'd' / 'e' / 'f' / 'g' / 'h')?" > g; printf z > t
   $ pegtool explain g t
-  t:1:1: expected 'a', 'b', 'c', 'd', 'e', 'f', 'g', 'h' or 1 more, found 'z'
+  t:1:1: expected the end, 'a', 'b', 'c', 'd', 'e', 'f', 'g' or 1 more, found 'z'
   z
   ^
   [1]
@@ -93,7 +95,22 @@ Ten different items and the end are eleven, of which three are only counted.
   $ printf "S <- ('j' / 'i' / 'h' / 'j' / 'i' / 'h' / 'g' / 'f' / 'e' / 'd' / 'c' / 'b' / 'a' / 'a')?" > g
   $ printf z > t
   $ pegtool explain g t
-  t:1:1: expected 'j', 'i', 'h', 'g', 'f', 'e', 'd', 'c' or 3 more, found 'z'
+  t:1:1: expected the end, 'j', 'i', 'h', 'g', 'f', 'e', 'd' or 3 more, found 'z'
+  z
+  ^
+  [1]
+
+The predicate `!.` expects the end, so it is written before the eight items that precede it in the file. With --rules
+each of two such predicates has its rule.
+
+  $ printf "S <- 'a' / 'b' / 'c' / 'd' / 'e' / 'f' / 'g' / 'h' / !. / E\nE <- 'i' / ! .\n" > g; printf z > t
+  $ pegtool explain g t
+  t:1:1: expected the end, 'a', 'b', 'c', 'd', 'e', 'f', 'g' or 2 more, found 'z'
+  z
+  ^
+  [1]
+  $ pegtool explain g t --rules
+  t:1:1: expected the end in S, the end in E, 'a' in S, 'b' in S, 'c' in S, 'd' in S, 'e' in S, 'f' in S or 3 more, found 'z'
   z
   ^
   [1]

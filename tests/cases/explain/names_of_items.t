@@ -81,7 +81,7 @@ Number is called at position 0 and its class fails at 1, so it isn't named there
 
   $ printf 1x > t
   $ pegtool explain g t
-  t:1:2: expected ' ', '+', [0-9] or the end, found 'x'
+  t:1:2: expected the end, ' ', '+' or [0-9], found 'x'
   1x
    ^
   [1]

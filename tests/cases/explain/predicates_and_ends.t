@@ -19,7 +19,7 @@ After the name either a further letter or the end is expected at position 2.
 
   $ printf ab1 > t
   $ pegtool explain g t
-  t:1:3: expected [a-z] or the end, found '1'
+  t:1:3: expected the end or [a-z], found '1'
   ab1
     ^
   [1]
@@ -75,7 +75,7 @@ A further a could follow the match of the plus, or the text could have ended.
 
   $ printf "S <- 'a'+\n" > g; printf ab > t
   $ pegtool explain g t
-  t:1:2: expected 'a' or the end, found 'b'
+  t:1:2: expected the end or 'a', found 'b'
   ab
    ^
   [1]

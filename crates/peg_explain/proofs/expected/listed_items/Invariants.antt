@@ -1,5 +1,5 @@
 use Rattle.std.proofs.Common.{◌≡◌, map, take}
-use Rattle.peg_bytes.specs.Extent.{extent}
+use Rattle.peg_explain.specs.Expected.{facts_in}
 use Rattle.peg_explain.specs.Explanations.{fact_of, item_numbered}
 use Rattle.peg_explain.proofs.expected.listed_items.Given as goal
 
@@ -7,5 +7,4 @@ use Rattle.peg_explain.proofs.expected.listed_items.Given as goal
 abbrev pub invariant-numbers : goal.invariant-numbers
 invariant-numbers l =
     map fact_of l.list.items
-    ≡ map (item_numbered l.items.file.now (map extent l.items.spans.now) l.items.rules.now l.rests)
-    (take l.number-index l.numbers)
+    ≡ map (item_numbered (facts_in l.items l.rests)) (take l.number-index l.numbers)

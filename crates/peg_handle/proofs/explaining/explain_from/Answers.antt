@@ -52,7 +52,7 @@ returns-in-Some-clause-explained c =
     let found = start_name rules (start_named c.args.options.now) in
     let explainer = made (goal.at.returns-in-Some-clause-explained c).In_ok-explainer in
     let is = subst (λ (m : Option Mismatch). IfSome found (IsMismatchOf grammar text m)) c.in-Some.is
-    (subst (λ (style : ItemStyle). IfSome found (λ start. IsMismatchIn grammar.bytes.items rules style text start
+    (subst (λ (style : ItemStyle). IfSome found (λ start. IsMismatchIn rules style text start
     c.in_ok-mismatch.field-0)) (styled (goal.at.returns-in-Some-clause-explained c).In_ok-explainer)
     (c.in_ok-mismatch.ensures.mismatch grammar.bytes.items rules explainer)) in
     explains grammar c.args.name.now text found (Some c.in-Some.mismatch) (Some c.in_ok-explanation-in-Some.explanation) is
@@ -66,7 +66,7 @@ returns-clause-explained c =
     let found = start_name rules (start_named c.args.options.now) in
     let explainer = made (goal.at.returns-clause-explained c).In_ok-explainer in
     let is = subst (λ (m : Option Mismatch). IfSome found (IsMismatchOf grammar text m)) c.in-None.is
-    (subst (λ (style : ItemStyle). IfSome found (λ start. IsMismatchIn grammar.bytes.items rules style text start
+    (subst (λ (style : ItemStyle). IfSome found (λ start. IsMismatchIn rules style text start
     c.in_ok-mismatch.field-0)) (styled (goal.at.returns-clause-explained c).In_ok-explainer)
     (c.in_ok-mismatch.ensures.mismatch grammar.bytes.items rules explainer)) in
     explains grammar c.args.name.now text found None None is tt

@@ -1,6 +1,6 @@
 use Rattle.std.proofs.Common.{◌≡◌, ◌+◌, drop}
 use Rattle.std.specs.List.{prefix_len}
-use Rattle.peg_messages.specs.Sentences.{is_name_byte}
+use Rattle.peg_messages.specs.SyntaxCauses.{is_name_byte}
 use Rattle.peg_messages.proofs.sentences.name_from.Given as goal
 
 abbrev pub invariant-name : goal.invariant-name

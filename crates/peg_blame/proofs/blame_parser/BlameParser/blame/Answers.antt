@@ -10,6 +10,7 @@ use Rattle.peg_semantics.specs.Starts.{start_name}
 use Rattle.peg_blame.specs.BlameOutcome.{IsBlameOutcome}
 use Rattle.peg_blame.specs.BlameParser.{IsBlameParserOf}
 use Rattle.peg_blame.proofs.BlameParses.{items-fit, nonempty, shown-start, some-from, start-outcome}
+use Rattle.peg_blame.proofs.InTextLemmas.{parse-in_text}
 use Rattle.peg_blame.proofs.blame_parser.BlameParser.blame.Goals as goal
 use Rattle.peg_blame.proofs.blame_parser.BlameParser.blame.Goals.{After-parse_among}
 
@@ -61,6 +62,9 @@ returns-clause-fits c rules is =
     (λ answer. All (λ item. item < length (extents_of_items rules)) answer.outcome.expected.items)
     (λ answer fits. items-fit rules terminals answer.outcome.expected.items (c.deref.ensures.value ∙ is.terminals)
     fits.indices) c.parse_among.ensures.parse.fits
+
+pub returns-clause-in_text : goal.returns-clause-in_text
+returns-clause-in_text c = parse-in_text _ _ _ _ _ _ c.parse_among.result c.parse_among.ensures.parse
 
 -- ---- the steps are those of the diagnostic grammar
 

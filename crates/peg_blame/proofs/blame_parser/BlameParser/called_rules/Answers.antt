@@ -62,7 +62,7 @@ returns-clause-called c rules is =
     let before = c.new-calls.result in
     let after = c.trace.new.watch in
     start-called rules all named is.diagnostic (nonempty rules is.grammar) c.args.text.now c.args.at
-    c.in_ok-rules_called_at.field-0 before after c.new-calls.ensures is.distinct is.well_formed
+    c.in_ok-rules_called_at.field-0 before after c.in_ok-_answer._answer c.new-calls.ensures is.distinct is.well_formed
     c.in_ok-_answer.ensures.traced
     (λ rule. c.in_ok-rules_called_at.ensures rule
     ∙ ap (λ (n : ℕ). is_called (calls_of_first n (map call_of c.pairs.result.now)) rule c.args.at) is.count

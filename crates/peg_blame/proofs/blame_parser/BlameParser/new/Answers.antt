@@ -1,9 +1,12 @@
-use Rattle.std.proofs.Common.{List, subst, sym, ◌∙◌}
+use Rattle.std.proofs.Common.{◌≤◌, List, subst, sym, ◌∙◌}
 use Rattle.std.specs.List.Sorted.{IsStrictlyIncreasing}
 use Rattle.peg_diagnostics.proofs.ItemNumbers.{item_terminals-rise}
 use Rattle.peg_diagnostics.proofs.Lookups.{Distinct}
 use Rattle.peg_grammar.specs.GrammarRules.{rules_in}
-use Rattle.peg_semantics.specs.Rules.{Rule, names}
+use Rattle.peg_parser.specs.Accepts.{code_size}
+use Rattle.peg_code.specs.Compiled.{max_instructions}
+use Rattle.peg_semantics.specs.Grammar.{max_parts}
+use Rattle.peg_semantics.specs.Rules.{Rule, names, weight_of}
 use Rattle.peg_semantics.specs.WellFormed.{IsWellFormedGrammar}
 use Rattle.peg_blame.specs.Faults.{IsParserRefusal, of_grammar}
 use Rattle.peg_blame.proofs.BlameFaults.{formed-too, names-distinct, refused-error, refused-grammar, refused-parser}
@@ -39,10 +42,13 @@ returns-clause-made c =
           (subst IsWellFormedGrammar same c.in_ok-parser.ensures.well_formed);
       diagnostic = c.in_ok-parser.ensures.rules ∙ same;
       distinct = distinct;
+      light = subst (λ (shown : List Rule). weight_of shown ≤ max_parts) same c.in_ok-diagnostic.diagnostic.light;
+      small = subst (λ (shown : List Rule). code_size shown ≤ max_instructions) same c.in_ok-parser.ensures.small;
       count = c.rules.ensures.count;
       terminals = c.in_ok-terminals.ensures;
       items = c.in_ok-items.ensures;
       item_rules = c.in_ok-item_rules.ensures;
+      item_kinds = c.in_ok-item_kinds.ensures;
     }
 
 -- the numbers of items ascend

@@ -30,7 +30,7 @@ returns-in_ok-message-in-Some-clause-explanation c file rules of_explainer =
     let text = c.args.text.now in
     let style = c.args.self.now.style in
     let found = start_name rules (start_named c.args.options.now) in
-    let is = subst (λ (m : Option Mismatch). IfSome found (λ start. IsMismatchIn file rules style text start m)) c.in-Some.is
+    let is = subst (λ (m : Option Mismatch). IfSome found (λ start. IsMismatchIn rules style text start m)) c.in-Some.is
     (c.in_ok-mismatch.ensures.mismatch file rules of_explainer) in
     message-explains file rules style c.args.name.now text found c.in-Some.mismatch c.in_ok-message-in-Some.field-0.items is
     (c.in_ok-message-in-Some.ensures file rules of_explainer)
@@ -40,6 +40,6 @@ returns-in-None-clause-explanation c file rules of_explainer =
     let text = c.args.text.now in
     let style = c.args.self.now.style in
     let found = start_name rules (start_named c.args.options.now) in
-    let is = subst (λ (m : Option Mismatch). IfSome found (λ start. IsMismatchIn file rules style text start m)) c.in-None.is
+    let is = subst (λ (m : Option Mismatch). IfSome found (λ start. IsMismatchIn rules style text start m)) c.in-None.is
     (c.in_ok-mismatch.ensures.mismatch file rules of_explainer) in
     no_message-explains file rules style c.args.name.now text found is

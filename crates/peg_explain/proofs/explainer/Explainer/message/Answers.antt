@@ -2,7 +2,7 @@ use Rattle.std.proofs.Common.{◌∙◌, ℕ, ◌++◌, List, ap, map, refl}
 use Rattle.peg_messages.specs.Failures.{failure_message}
 use Rattle.peg_messages.specs.declared.failure.Failure.{Failure}
 use Rattle.peg_semantics.specs.Rules.{Rule}
-use Rattle.peg_explain.specs.Explanations.{message_item_of, shown_item}
+use Rattle.peg_explain.specs.Explanations.{message_item_of, note_text, shown_item}
 use Rattle.peg_explain.proofs.explainer.Explainer.message.Goals as goal
 
 pub returns : goal.returns
@@ -27,5 +27,6 @@ returns c file rules of_explainer =
             ∙ ap (map (shown_item rules style)) c.deref.ensures.value;
         end = refl;
       },
-      c.in_ok-write.ensures.message ∙ ap (λ (l : List ℕ). l ++ failure_message failure) c.new-message.ensures.items,
+      c.in_ok-write_note.ensures ∙ ap (λ (l : List ℕ). l ++ note_text c.args.mismatch.now.analysis)
+          (c.in_ok-write.ensures.message ∙ ap (λ (l : List ℕ). l ++ failure_message failure) c.new-message.ensures.items),
     )

@@ -1,6 +1,9 @@
-use Rattle.std.proofs.Common.{rules as by_rules, ◌≡◌, ◌∙◌, ℕ, IfSome, List, ap, inr, map, subst, sym}
+use Rattle.std.proofs.Common.{rules as by_rules, ◌≡◌, ◌∙◌, IfSome, List, Ok, ap, inl, inr, map, refl, subst, sym}
 use Rattle.std.proofs.lemmas.Simd.{map-map}
 use Rattle.peg_blame.specs.BlameParser.{IsBlameParserOf}
+use Rattle.peg_blame.specs.Faults.{CanBeBlamed}
+use Rattle.peg_blame.proofs.InTextLemmas.{parse-in_text}
+use Rattle.peg_blame.specs.declared.blame_parser.BlameParser.{BlameParser}
 use Rattle.peg_bytes.specs.Extent.{extent}
 use Rattle.peg_bytes.specs.declared.span.Span.{Span}
 use Rattle.peg_grammar.specs.Outcomes.{IsParseOutcome}
@@ -25,14 +28,13 @@ returns-in_ok-expected-in-Some-clause-mismatch c file rules of_explainer =
     let outcome = c.in_ok-answer-in-Some.answer.outcome in
     let expected = map fact_of c.in_ok-expected-in-Some.expected.items in
     let blames : IsBlameParserOf rules c.in-Some.blames = subst (IsBlameOf rules) c.in-Some.is of_explainer.blames in
-    blame-explains file rules style text (start_name rules (start_named c.args.options.now)) outcome
-    (λ facts parsed. HasMismatch file facts text parsed c.mismatch_in.result)
+    blame-explains rules style text (start_name rules (start_named c.args.options.now)) outcome
+    (λ facts parsed. HasMismatch facts text parsed c.mismatch_in.result)
     (c.in_ok-answer-in-Some.ensures.outcome rules blames)
     (λ start named is.
-    let stated : AreItemsFor file rules style text outcome is.blame.calls expected =
-    subst (λ (bytes : List ℕ). AreItemsFor bytes rules style text outcome is.blame.calls expected) of_explainer.has_file
-    (c.in_ok-expected-in-Some.ensures.items rules start blames of_explainer.has_parser named is) in
-    (stated.0, stated.1, c.mismatch_in.ensures.mismatch file (facts_by_blame rules stated.0) stated.2))
+    let stated : AreItemsFor rules style text outcome is.blame.calls expected =
+    c.in_ok-expected-in-Some.ensures.items rules start blames of_explainer.has_parser named is in
+    (stated.0, stated.1, c.mismatch_in.ensures.mismatch (facts_by_blame rules stated.0) refl stated.2))
 
 pub returns-in_ok-expected-in-None-clause-mismatch : goal.returns-in_ok-expected-in-None-clause-mismatch
 returns-in_ok-expected-in-None-clause-mismatch c file rules of_explainer =
@@ -46,16 +48,46 @@ returns-in_ok-expected-in-None-clause-mismatch c file rules of_explainer =
     c.in_ok-spans-in-None.ensures.spans
     ∙ ap (λ (l : List Rule). expected_spans (extents_of_terminals l) outcome) same in
     let items : map fact_of c.in_ok-expected-in-None.expected.items
-    ≡ expected_items file (facts_by_tests rules) outcome =
+    ≡ expected_items (facts_by_tests rules) outcome =
     c.in_ok-expected-in-None.ensures.items
     ∙ ap (map (λ (span : Span). unnamed_fact (extent span))) c.deref.ensures.value
     ∙ sym (map-map unnamed_fact extent c.in_ok-spans-in-None.spans.items)
-    ∙ unnamed-items file outcome rules (map extent c.in_ok-spans-in-None.spans.items) spans in
+    ∙ unnamed-items outcome rules (map extent c.in_ok-spans-in-None.spans.items) spans in
     let parsed = subst (λ (l : List Rule). IfSome (start_name l start) (λ from. IsParseOutcome l text from outcome)) same
     c.in_ok-answer-in-None.ensures.parse.outcome in
-    tests-explain file rules style text (start_name rules start) outcome
-    (λ facts parsed. HasMismatch file facts text parsed c.mismatch_in-in-None.result) lacks parsed
-    (c.mismatch_in-in-None.ensures.mismatch file (facts_by_tests rules) (λ differs. items))
+    tests-explain rules style text (start_name rules start) outcome
+    (λ facts parsed. HasMismatch facts text parsed c.mismatch_in-in-None.result) lacks parsed
+    (c.mismatch_in-in-None.ensures.mismatch (facts_by_tests rules) refl (λ differs. items))
+
+pub mismatch_in-requires-in-None-clause-in_text : goal.mismatch_in-requires-in-None-clause-in_text
+mismatch_in-requires-in-None-clause-in_text c =
+    parse-in_text _ _ _ _ _ _ (Ok c.in_ok-answer-in-None.answer) c.in_ok-answer-in-None.ensures.parse
+
+-- rules that have a parser of blame
+can-blame : (rules : List Rule) (blames : BlameParser) → IsBlameParserOf rules blames → CanBeBlamed rules
+can-blame rules blames is =
+    record { well_formed = is.well_formed; distinct = is.distinct; light = is.light; small = is.small }
+
+pub returns-in_err-answer-in-Some-clause-limited : goal.returns-in_err-answer-in-Some-clause-limited
+returns-in_err-answer-in-Some-clause-limited c file rules of_explainer is_limit =
+    let blames : IsBlameParserOf rules c.in-Some.blames = subst (IsBlameOf rules) c.in-Some.is of_explainer.blames in
+    inl (
+      can-blame rules c.in-Some.blames blames,
+      (c.in_err-answer-in-Some.ensures.limit rules blames).limited (search by_rules),
+    )
+
+pub returns-in_err-expected-in-Some-clause-limited : goal.returns-in_err-expected-in-Some-clause-limited
+returns-in_err-expected-in-Some-clause-limited c file rules of_explainer is_limit =
+    let blames : IsBlameParserOf rules c.in-Some.blames = subst (IsBlameOf rules) c.in-Some.is of_explainer.blames in
+    inl (
+      can-blame rules c.in-Some.blames blames,
+      c.in_err-expected-in-Some.ensures.limited rules blames of_explainer.has_parser (search by_rules),
+    )
+
+pub returns-in_ok-expected-in-Some-clause-enough : goal.returns-in_ok-expected-in-Some-clause-enough
+returns-in_ok-expected-in-Some-clause-enough c file rules of_explainer no_memo =
+    let blames : IsBlameParserOf rules c.in-Some.blames = subst (IsBlameOf rules) c.in-Some.is of_explainer.blames in
+    inl (can-blame rules c.in-Some.blames blames, (c.in_ok-answer-in-Some.ensures.limit rules blames).enough no_memo)
 
 pub returns-in_err-answer-in-None-clause-limited : goal.returns-in_err-answer-in-None-clause-limited
 returns-in_err-answer-in-None-clause-limited c file rules of_explainer is_limit =

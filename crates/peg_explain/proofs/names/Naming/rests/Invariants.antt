@@ -8,6 +8,6 @@ use Rattle.peg_explain.proofs.names.Naming.rests.Given as goal
 -- the rests for the first items
 abbrev pub invariant-numbers : goal.invariant-numbers
 invariant-numbers l =
-    (file : List ℕ) (rules : List Rule) (text : List ℕ) (calls : List RuleCall) (at : ℕ)
-    → IsNamingAt file rules text calls at l.self
-    → AreRestsSoFar file rules text calls at l.numbers l.number-index l.rests.items
+    (rules : List Rule) (text : List ℕ) (calls : List RuleCall) (at : ℕ)
+    → IsNamingAt rules text calls at l.self
+    → AreRestsSoFar rules text calls at l.numbers l.number-index l.rests.items
