@@ -1,8 +1,9 @@
 #!/usr/bin/env python3
 """Fails each allocation of runs of the built program in turn. Each run must end with status 5, print nothing and report
 `pegtool: out of memory` on standard error, or print the same line with the same status as with enough memory. A run of
-`explain` with status 5 may have printed the whole messages of its first texts. The argument is the program, by default the one that `make run` builds. Needs a C compiler for the library that fails
-allocations. tests/oom/README.md lists the calls that these runs reach."""
+`explain` with status 5 may have printed the whole messages of its first texts. The argument is the program, by default
+the one that `make run` builds. Needs a C compiler for the library that fails allocations. tests/oom/README.md lists the
+calls that these runs reach."""
 import concurrent.futures
 import os
 import pathlib
@@ -61,7 +62,8 @@ FILES = {
 REFUSED = ["cycle", "loop", "plus", "star", "twice", "missing", "open", "escape", "count", "unclosed", "none", "nested",
            "large", "long"]
 
-# The arguments of each run. A word that ends with .peg or .txt is a file, and NAMES stands for a list of texts.
+# The arguments of each run. A word that ends with .peg or .txt is a file. NAMES stands for a list of texts, and TEXTS for a
+# folder with two texts.
 COMMANDS = [
     "parse chain.peg chain.txt",
     "parse chain.peg chain.txt --rows",
@@ -104,6 +106,9 @@ COMMANDS = [
     "explain prefix.peg deep.txt --steps 100",
     "explain words.peg words.txt empty.txt --rules",
     "explain byte.peg empty.txt byte.txt",
+    "test chain.peg TEXTS",
+    "test missing.peg TEXTS",
+    "test chain.peg TEXTS --start T",
     "profile chain.peg chain.txt",
     "profile counts.peg chain.txt",
     "profile chain.peg chain.txt --start T",
@@ -126,7 +131,7 @@ class Case:
     def __init__(self, folder: str, number: int, label: str, stdin: bytes = b"") -> None:
         self.label, self.stdin = label or "no arguments", stdin
         self.met = f"{folder}/met-{number}"
-        names = {**{name: f"{folder}/{name}" for name in FILES}, "NAMES": f"{folder}/names"}
+        names = {**{name: f"{folder}/{name}" for name in FILES}, "NAMES": f"{folder}/names", "TEXTS": f"{folder}/texts"}
         self.arguments = [names.get(word, word) for word in label.split()]
 
     def may_print(self, printed: bytes, wanted: bytes) -> bool:
@@ -155,6 +160,9 @@ def main() -> int:
         for name, content in FILES.items():
             pathlib.Path(folder, name).write_bytes(content)
         pathlib.Path(folder, "names").write_text(f"{folder}/chain.txt\n{folder}/repeats.txt\n", encoding="utf-8")
+        pathlib.Path(folder, "texts").mkdir()
+        pathlib.Path(folder, "texts/match_a").write_bytes(b"aab")
+        pathlib.Path(folder, "texts/no_match_b").write_bytes(b"b")
         stored = (TOP / "crates/pegtool/stdin").read_bytes()
         cases = [Case(folder, 0, "", stored), *(Case(folder, at, label) for at, label in enumerate(COMMANDS, 1))]
         with concurrent.futures.ThreadPoolExecutor(os.cpu_count()) as pool:

@@ -5,7 +5,7 @@ use Rattle.clap.specs.Matches.{first_value, matched_of, one_text, raw_values}
 use Rattle.clap.specs.declared.parser.matches.Found.{Found}
 use Rattle.peg_cli.specs.Words.{default_coverage_memo, default_profile_memo}
 use Rattle.peg_cli.specs.declared.words.Words.{Words}
-use Rattle.peg_cli.specs.declared.words.Words.TheVariants.{Joined, Help, Table, Check, Code, Lint, Profile, Coverage, Explain, Parse}
+use Rattle.peg_cli.specs.declared.words.Words.TheVariants.{Joined, Help, Table, Check, Code, Lint, Profile, Coverage, Explain, Test, Parse}
 
 -- all values of an argument, in the order of the command line; none if it is not given
 abbrev pub all_values : Found → (id : List ℕ) → List (List ℕ)
@@ -61,6 +61,12 @@ IsCommandOf name found (Explain g texts files_from null start memo steps rules t
     × IsFlagAt found (codes "rules") rules
     × IsFlagAt found (codes "terminals") terminals
     × IsFlagAt found (codes "quiet") quiet
+IsCommandOf name found (Test g folders start memo steps) = (name ≡ codes "test")
+    × (first_value found (codes "G") ≡ Some (string_bytes g))
+    × (all_values found (codes "FOLDER") ≡ map string_bytes folders.items)
+    × (first_value found (codes "start") ≡ option_map string_bytes start)
+    × (number_at found (codes "memo") ≡ Some memo)
+    × (number_at found (codes "steps") ≡ steps)
 IsCommandOf name found (Parse g t start memo steps all rows no_tree show hide text) = (name ≡ codes "parse")
     × (first_value found (codes "G") ≡ Some (string_bytes g))
     × (first_value found (codes "T") ≡ Some (string_bytes t))

@@ -5,7 +5,7 @@ use std::alloc::{AllocError, Global};
 /// The largest value of `--memo`.
 pub(crate) const MAX_MEMO: u32 = 1_000_000;
 
-// The default value of `--memo` for `parse` and `explain`.
+// The default value of `--memo` for `parse`, `explain` and `test`.
 const DEFAULT_MEMO: &str = "4096";
 
 /// The largest value of `--steps`.
@@ -40,6 +40,7 @@ fn with_text_commands<'a>(alloc: Global, program: Command<'a>) -> Result<Command
     program
         .subcommand(profile(alloc)?)?
         .subcommand(explain(alloc)?)?
+        .subcommand(test(alloc)?)?
         .subcommand(parse(alloc)?)
 }
 
@@ -72,7 +73,11 @@ fn lint<'a>(alloc: Global) -> Result<Command<'a>, AllocError> {
         .after_help(LINT_NOTES)
         .arg(grammar_file(alloc))?
         .arg(start_option(alloc))?
-        .arg(proved_flag(alloc))
+        .arg(flag(
+            alloc,
+            "proved",
+            "Prints only proved warnings, without habits of other notations",
+        ))
 }
 
 fn profile<'a>(alloc: Global) -> Result<Command<'a>, AllocError> {
@@ -81,7 +86,11 @@ fn profile<'a>(alloc: Global) -> Result<Command<'a>, AllocError> {
         .after_help(PROFILE_NOTES)
         .arg(grammar_file(alloc))?
         .arg(profiled_files(alloc))?
-        .arg(coverage_flag(alloc))?
+        .arg(flag(
+            alloc,
+            "coverage",
+            "Prints the rules and alternatives that none of the texts uses",
+        ))?
         .arg(start_option(alloc))?
         .arg(profile_memo_option(alloc))?
         .arg(steps_option(alloc).default_value("1000000000"))
@@ -95,14 +104,40 @@ fn explain<'a>(alloc: Global) -> Result<Command<'a>, AllocError> {
         .after_help(EXPLAIN_NOTES)
         .arg(grammar_file(alloc))?
         .arg(text_files(alloc))?
-        .arg(files_from_option(alloc))?
+        .arg(text_option(
+            alloc,
+            "files-from",
+            "FILE",
+            "A file that lists further files, one name a line; - is standard input",
+        ))?
         .arg(null_flag(alloc)?)?
         .arg(start_option(alloc))?
         .arg(memo_option(alloc).default_value(DEFAULT_MEMO))?
         .arg(optional_steps_option(alloc))?
-        .arg(rules_flag(alloc))?
-        .arg(terminals_flag(alloc))?
-        .arg(quiet_flag(alloc))
+        .arg(flag(alloc, "rules", "Writes the rule of each expected item"))?
+        .arg(flag(
+            alloc,
+            "terminals",
+            "Writes each class and dot as in the grammar, not the name of its rule",
+        ))?
+        .arg(flag(
+            alloc,
+            "quiet",
+            "Prints nothing; the exit status alone says the result",
+        ))
+}
+
+fn test<'a>(alloc: Global) -> Result<Command<'a>, AllocError> {
+    Command::new(alloc, "test")
+        .about(
+            "Prints which texts in folders don't match, or match, though their names say otherwise",
+        )
+        .after_help(TEST_NOTES)
+        .arg(grammar_file(alloc))?
+        .arg(folders(alloc))?
+        .arg(start_option(alloc))?
+        .arg(memo_option(alloc).default_value(DEFAULT_MEMO))?
+        .arg(optional_steps_option(alloc))
 }
 
 fn parse<'a>(alloc: Global) -> Result<Command<'a>, AllocError> {
@@ -114,10 +149,23 @@ fn parse<'a>(alloc: Global) -> Result<Command<'a>, AllocError> {
         .arg(start_option(alloc))?
         .arg(memo_option(alloc).default_value(DEFAULT_MEMO))?
         .arg(optional_steps_option(alloc))?
-        .arg(all_flag(alloc))?
-        .arg(rows_flag(alloc))?
+        .arg(flag(
+            alloc,
+            "all",
+            "Requires that the whole text is consumed; a shorter match is partial, status 1",
+        ))?
+        .arg(flag(
+            alloc,
+            "rows",
+            "Prints the tree as a list of nodes [level, rule, start, end], of any depth",
+        ))?
         .arg(no_tree_flag(alloc)?)?
-        .arg(show_option(alloc))?
+        .arg(text_option(
+            alloc,
+            "show",
+            "LIST",
+            "Prints only the root and the nodes of these rules, as Name,Name",
+        ))?
         .arg(hide_option(alloc)?)?
         .arg(text_flag(alloc)?)
 }
@@ -140,13 +188,6 @@ fn profiled_files<'a>(alloc: Global) -> Arg<'a> {
         .required(true)
 }
 
-fn coverage_flag<'a>(alloc: Global) -> Arg<'a> {
-    Arg::new(alloc, "coverage")
-        .long("coverage")
-        .action(ArgAction::SetTrue)
-        .help("Prints the rules and alternatives that none of the texts uses")
-}
-
 // Any number of files, before, between and after options.
 fn text_files<'a>(alloc: Global) -> Arg<'a> {
     Arg::new(alloc, "T")
@@ -154,51 +195,48 @@ fn text_files<'a>(alloc: Global) -> Arg<'a> {
         .help("The files to explain")
 }
 
-// A list of files. Hyphen values are allowed, as for the start rule.
-fn files_from_option<'a>(alloc: Global) -> Arg<'a> {
-    Arg::new(alloc, "files-from")
-        .long("files-from")
-        .value_name("FILE")
+// One folder or more, before, between and after options.
+fn folders<'a>(alloc: Global) -> Arg<'a> {
+    Arg::new(alloc, "FOLDER")
+        .num_args(1..)
+        .help("The folders of texts")
+        .required(true)
+}
+
+// An option without a value.
+fn flag<'a>(alloc: Global, name: &'a str, help: &'a str) -> Arg<'a> {
+    Arg::new(alloc, name)
+        .long(name)
+        .action(ArgAction::SetTrue)
+        .help(help)
+}
+
+// An option with any text as its value. A value may begin with a hyphen, so that such a name is reported as unknown.
+fn text_option<'a>(alloc: Global, name: &'a str, value: &'a str, help: &'a str) -> Arg<'a> {
+    Arg::new(alloc, name)
+        .long(name)
+        .value_name(value)
         .allow_hyphen_values(true)
-        .help("A file that lists further files, one name a line; - is standard input")
+        .help(help)
 }
 
 fn null_flag<'a>(alloc: Global) -> Result<Arg<'a>, AllocError> {
-    Arg::new(alloc, "null")
-        .long("null")
-        .action(ArgAction::SetTrue)
-        .help("Names in the list end at a zero byte instead of a line end")
-        .requires_arg("files-from")
+    flag(
+        alloc,
+        "null",
+        "Names in the list end at a zero byte instead of a line end",
+    )
+    .requires_arg("files-from")
 }
 
-fn rules_flag<'a>(alloc: Global) -> Arg<'a> {
-    Arg::new(alloc, "rules")
-        .long("rules")
-        .action(ArgAction::SetTrue)
-        .help("Writes the rule of each expected item")
-}
-
-fn terminals_flag<'a>(alloc: Global) -> Arg<'a> {
-    Arg::new(alloc, "terminals")
-        .long("terminals")
-        .action(ArgAction::SetTrue)
-        .help("Writes each class and dot as in the grammar, not the name of its rule")
-}
-
-fn quiet_flag<'a>(alloc: Global) -> Arg<'a> {
-    Arg::new(alloc, "quiet")
-        .long("quiet")
-        .action(ArgAction::SetTrue)
-        .help("Prints nothing; the exit status alone says the result")
-}
-
-// The start rule. Hyphen values are allowed, so that a name that begins with a hyphen is reported as an unknown rule.
+// The start rule.
 fn start_option<'a>(alloc: Global) -> Arg<'a> {
-    Arg::new(alloc, "start")
-        .long("start")
-        .value_name("NAME")
-        .allow_hyphen_values(true)
-        .help("The rule to start from [default: the first rule of the file]")
+    text_option(
+        alloc,
+        "start",
+        "NAME",
+        "The rule to start from [default: the first rule of the file]",
+    )
 }
 
 fn memo_option<'a>(alloc: Global) -> Arg<'a> {
@@ -230,59 +268,32 @@ fn optional_steps_option<'a>(alloc: Global) -> Arg<'a> {
     steps_option(alloc).help("The maximum number of steps, 1 to 1000000000000 [default: no limit]")
 }
 
-fn all_flag<'a>(alloc: Global) -> Arg<'a> {
-    Arg::new(alloc, "all")
-        .long("all")
-        .action(ArgAction::SetTrue)
-        .help("Requires that the whole text is consumed; a shorter match is partial, status 1")
-}
-
-fn rows_flag<'a>(alloc: Global) -> Arg<'a> {
-    Arg::new(alloc, "rows")
-        .long("rows")
-        .action(ArgAction::SetTrue)
-        .help("Prints the tree as a list of nodes [level, rule, start, end], of any depth")
-}
-
 fn no_tree_flag<'a>(alloc: Global) -> Result<Arg<'a>, AllocError> {
-    Arg::new(alloc, "no-tree")
-        .long("no-tree")
-        .action(ArgAction::SetTrue)
-        .help("Prints the result without the tree, of any depth")
-        .conflicts_with("rows")
-}
-
-// The rules whose nodes are printed. Hyphen values are allowed, as for the start rule.
-fn show_option<'a>(alloc: Global) -> Arg<'a> {
-    Arg::new(alloc, "show")
-        .long("show")
-        .value_name("LIST")
-        .allow_hyphen_values(true)
-        .help("Prints only the root and the nodes of these rules, as Name,Name")
+    flag(
+        alloc,
+        "no-tree",
+        "Prints the result without the tree, of any depth",
+    )
+    .conflicts_with("rows")
 }
 
 fn hide_option<'a>(alloc: Global) -> Result<Arg<'a>, AllocError> {
-    Arg::new(alloc, "hide")
-        .long("hide")
-        .value_name("LIST")
-        .allow_hyphen_values(true)
-        .help("Prints the root and all nodes but those of these rules, as Name,Name")
-        .conflicts_with("show")
+    text_option(
+        alloc,
+        "hide",
+        "LIST",
+        "Prints the root and all nodes but those of these rules, as Name,Name",
+    )
+    .conflicts_with("show")
 }
 
 fn text_flag<'a>(alloc: Global) -> Result<Arg<'a>, AllocError> {
-    Arg::new(alloc, "text")
-        .long("text")
-        .action(ArgAction::SetTrue)
-        .help("Adds the bytes of each printed node without printed children")
-        .conflicts_with("no-tree")
-}
-
-fn proved_flag<'a>(alloc: Global) -> Arg<'a> {
-    Arg::new(alloc, "proved")
-        .long("proved")
-        .action(ArgAction::SetTrue)
-        .help("Prints only proved warnings, without habits of other notations")
+    flag(
+        alloc,
+        "text",
+        "Adds the bytes of each printed node without printed children",
+    )
+    .conflicts_with("no-tree")
 }
 
 // The text after the program's help.
@@ -290,11 +301,12 @@ const PROGRAM_NOTES: &str = "\
 Without arguments, pegtool reads standard input: a grammar file, a line `%%` and
 a text. It parses the text by the grammar's first rule.
 
-A run with an answer or a refusal prints one line of JSON; `explain` prints
-messages for people instead. The exit status is:
+A run with an answer or a refusal prints one line of JSON; `explain` and `test`
+print messages for people instead. The exit status is:
   0  success: matched, accepted, printed, no warnings, all used, or help
   1  no match, a partial match under --all, a text of `explain` that doesn't
-     match, warnings of `lint`, or something unused under --coverage
+     match, a test that fails, warnings of `lint`, or something unused under
+     --coverage
   2  the grammar is refused
   3  wrong arguments, or an unknown rule
   4  a file can't be opened or read, or the output can't be written
@@ -401,6 +413,25 @@ names it, and the other files are still read), or the output can't be written; 5
 of memory; 6 a text is too long, or --steps is too small for it.
 
 Example: pegtool explain grammar.peg *.txt";
+
+// The text after the help of `test`.
+const TEST_NOTES: &str = "\
+Parses the texts in the folders. A text whose name begins with `match` has to match
+as a whole, and one whose name begins with `no_match` not. For each that doesn't, a
+message is printed as by `explain`, and then a line with the counts:
+
+  3 passed, 1 failed, 0 ignored
+
+Files with other names, and those whose names end in `.rows`, are ignored. The files
+of a folder are tested in the order of their names' bytes. Folders inside a folder
+aren't entered.
+
+Status: 0 no test failed; 1 a test failed; 2 the grammar is refused; 3 wrong
+arguments, or an unknown rule; 4 a folder or a file can't be read (standard error
+names it, and the others are still read), or the output can't be written; 5 out of
+memory; 6 a text is too long, or --steps is too small for it.
+
+Example: pegtool test grammar.peg tests";
 
 // The text after the help of `parse`.
 const PARSE_NOTES: &str = "\

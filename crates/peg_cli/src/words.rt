@@ -89,6 +89,15 @@ pub enum Words {
         terminals: bool,
         quiet: bool,
     },
+    /// Print which texts in the folders `folders` don't do by grammar file `g` what their names ask for, as messages for
+    /// people, and how many there are. The other fields are those of `ParseOptions`.
+    Test {
+        g: String,
+        folders: Vec<String>,
+        start: Option<String>,
+        memo: u32,
+        steps: Option<u64>,
+    },
     /// Parse text file `t` by grammar file `g`. At most one of `show` and `hide` is given; each is a list of rules. The
     /// other fields are those of `Command::Parse` and `ParseOptions`.
     Parse {
@@ -174,6 +183,7 @@ fn named_command(alloc: Global, name: &str, words: &ArgMatches<'_>) -> Result<Wo
         "lint" => lint_of(alloc, words),
         "profile" => profile_of(alloc, words),
         "explain" => explain_of(alloc, words),
+        "test" => test_of(alloc, words),
         "parse" => parse_of(alloc, words),
         _ => Err(internal_usage_error(alloc)),
     }
@@ -241,6 +251,19 @@ fn explain_of(alloc: Global, matches: &ArgMatches<'_>) -> Result<Words, WordsFau
         rules: matches.get_flag("rules"),
         terminals: matches.get_flag("terminals"),
         quiet: matches.get_flag("quiet"),
+    })
+}
+
+fn test_of(alloc: Global, matches: &ArgMatches<'_>) -> Result<Words, WordsFault>
+    ensures asking { IfOk result IsAsking }
+    ensures command { IfOk result (IsCommandOf (codes "test") (found_of matches.now)) }
+{
+    Ok(Words::Test {
+        g: file_name(alloc, matches, "G")?,
+        folders: file_names(alloc, matches, "FOLDER")?,
+        start: optional_text(alloc, matches, "start")?,
+        memo: memo_size(alloc, matches)?,
+        steps: step_limit(alloc, matches)?,
     })
 }
 
@@ -403,6 +426,7 @@ fn hint_for(first: &str) -> &'static str {
         "lint" => "For this command: pegtool lint --help\n",
         "profile" => "For this command: pegtool profile --help\n",
         "explain" => "For this command: pegtool explain --help\n",
+        "test" => "For this command: pegtool test --help\n",
         "parse" => "For this command: pegtool parse --help\n",
         _ => "To parse a text T by a grammar file G: pegtool parse G T\n",
     }

@@ -1,5 +1,5 @@
-mod ContentLemmas
-mod ExplainedLemmas
+pub mod ContentLemmas
+pub mod ExplainedLemmas
 mod FaultLemmas
 mod ListFileLemmas
 mod ListLemmas
@@ -8,4 +8,4 @@ mod ProgressLemmas
 mod ReportLemmas
 mod SourceLemmas
 mod SplitLemmas
-mod StartLemmas
+pub mod StartLemmas

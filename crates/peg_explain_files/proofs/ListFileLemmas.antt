@@ -1,7 +1,7 @@
 -- The file that lists names.
 use Rattle.std.proofs.Common.{◌≡◌, ◌∙◌, ℕ, Bool, true, false, List, [], Option, None, Some, IsSome, ap, codes, if◌then◌else◌, refl, subst, sym}
 use Rattle.std.proofs.lemmas.Slice.Eq.{bytes_eq-Decides}
-use Rattle.peg_io.specs.NamedFile.{NamedFile, Unspecified, Missing, Holds, Readable, bytes_of}
+use Rattle.peg_io.specs.NamedFile.{NamedFile, Unspecified, Missing, Holds, Readable, Folder, bytes_of}
 use Rattle.peg_explain_files.specs.Names.{IsListingOf, Listing, Unopened, Whole, input_file, is_input, list_file}
 
 module _ (file_at : List ℕ → NamedFile) (input : Option (List ℕ)) (list : Option (List ℕ)) where
@@ -31,6 +31,7 @@ unopened-list Unspecified none = tt
 unopened-list Missing none = refl
 unopened-list (Holds bytes) none = absurd (none refl)
 unopened-list (Readable bytes) none = absurd (none refl)
+unopened-list (Folder names) none = tt
 
 -- whether a name is that of the input
 pub is-input : (name : List ℕ) → name ≡ codes "-" → is_input name ≡ true

@@ -7,7 +7,7 @@ use Rattle.std.proofs.KnownBytes.{Keeps-refl}
 use Rattle.std.proofs.lemmas.List.{length-append, take_all, take_at}
 use Rattle.std.proofs.lemmas.List.Elements.{filter-append}
 use Rattle.std.proofs.Math.Seq.{take-append-add}
-use Rattle.peg_io.specs.NamedFile.{NamedFile, Unspecified, Missing, Holds, Readable, bytes_of, is_readable}
+use Rattle.peg_io.specs.NamedFile.{NamedFile, Unspecified, Missing, Holds, Readable, Folder, bytes_of, is_readable}
 use Rattle.peg_explain_files.specs.Entries.{AreFaultEntries, entry_fault, entry_name, entry_verdict, message_of}
 use Rattle.peg_explain_files.specs.Explained.{ExplainsTexts}
 use Rattle.peg_explain_files.specs.Listings.{ExplainsParts, IsListingFrom, LeadsByListing, LeadsBySource, StopsInParts}
@@ -123,6 +123,7 @@ listing-of (Holds bytes) left never listing there same sure is =
     (subst (λ (l : Option (List ℕ)). IsListingFrom l never listing) same is).0
 listing-of (Readable bytes) left never listing there same sure is =
     let both = subst (λ (l : Option (List ℕ)). IsListingFrom l never listing) same is in (both.0, both.1 (sure refl))
+listing-of (Folder names) left never listing there bytes sure is = tt
 
 -- something can be read of each file
 pub some-listing : (file : NamedFile) → (listing : Listing) × IsListingOf file listing
@@ -130,6 +131,7 @@ some-listing Unspecified = (Unopened, tt)
 some-listing Missing = (Unopened, refl)
 some-listing (Holds bytes) = (Whole (take max_list_bytes bytes), refl)
 some-listing (Readable bytes) = (Whole (take max_list_bytes bytes), (refl, tt))
+some-listing (Folder names) = (Unopened, tt)
 
 -- the input as a list
 pub listing-of_input : (input : Option (List ℕ)) (never : Bool) (listing : Listing) → IsListingFrom input never listing

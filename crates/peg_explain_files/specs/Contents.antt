@@ -1,6 +1,6 @@
 -- What is read of a file.
 use Rattle.std.specs.Prelude.{◌≡◌, ◌≢◌, ◌≤◌, ℕ, List, length, take}
-use Rattle.peg_io.specs.NamedFile.{NamedFile, Unspecified, Missing, Holds, Readable}
+use Rattle.peg_io.specs.NamedFile.{NamedFile, Unspecified, Missing, Holds, Readable, Folder}
 use Rattle.peg_explain_files.specs.declared.content.Content.{Content}
 use Rattle.peg_explain_files.specs.declared.content.Content.TheVariants.{Bytes, Unopened, Unreadable}
 
@@ -16,6 +16,7 @@ IsContentOf limit Unspecified content = Unit {0}
 IsContentOf limit Missing content = content ≡ Unopened
 IsContentOf limit (Holds bytes) content = IsRead limit bytes content
 IsContentOf limit (Readable bytes) content = IsRead limit bytes content × (content ≢ Unreadable)
+IsContentOf limit (Folder names) content = Unit {0}
 
 -- at most `limit` bytes are held
 abbrev pub HoldsAtMost : (limit : ℕ) → Content → Type 0

@@ -2,7 +2,7 @@
 use Rattle.std.specs.Prelude.{◌≡◌, ℕ, ◌-◌, Bool, true, false, ◌==◌, if◌then◌else◌, List, [], ◌∷◌, ◌++◌, Option, None, Some, bytes_eq, codes}
 use Rattle.std.specs.Prelude.{length, take}
 use Rattle.std.specs.List.{filter, slice_split}
-use Rattle.peg_io.specs.NamedFile.{NamedFile, Unspecified, Missing, Holds, Readable}
+use Rattle.peg_io.specs.NamedFile.{NamedFile, Unspecified, Missing, Holds, Readable, Folder}
 use Rattle.peg_explain_files.specs.Questions.{Question}
 use Rattle.peg_explain_files.specs.declared.query.NameEnd.{NameEnd}
 use Rattle.peg_explain_files.specs.declared.query.NameEnd.TheVariants.{LineEnd, ZeroByte}
@@ -86,6 +86,7 @@ IsListingOf Unspecified listing = Unit {0}
 IsListingOf Missing listing = listing ≡ Unopened
 IsListingOf (Holds bytes) listing = IsListed bytes listing
 IsListingOf (Readable bytes) listing = IsListed bytes listing × IsUnbroken listing
+IsListingOf (Folder names) listing = Unit {0}
 
 -- ---- the input
 

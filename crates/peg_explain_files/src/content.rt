@@ -7,7 +7,7 @@ use std::alloc::{AllocError, Global};
 
 /// What a file holds, up to a number of bytes, or why that isn't known.
 #[derive(Drop)]
-pub(crate) enum Content {
+pub enum Content {
     /// The file begins with these bytes.
     Bytes(Vec<u8>),
     /// The file can't be opened.
@@ -17,7 +17,7 @@ pub(crate) enum Content {
 }
 
 /// Returns what the file with this name holds, up to this many bytes. The only error is a failed allocation.
-pub(crate) fn content_of<O: Opener>(
+pub fn content_of<O: Opener>(
     alloc: Global,
     files: &O,
     name: &str,

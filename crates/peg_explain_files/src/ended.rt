@@ -44,7 +44,7 @@ impl Verdict {
     }
 
     /// Returns the verdict that is worse.
-    pub(crate) fn worse(self, other: Verdict) -> Verdict
+    pub fn worse(self, other: Verdict) -> Verdict
         ensures { result ≡ worse self other }
     {
         if self.severity() < other.severity() {

@@ -9,16 +9,16 @@ use std::alloc::{AllocError, Global};
 
 /// The name of a text, which may be any bytes, and what is reported of the text.
 #[derive(Drop)]
-pub(crate) struct Entry<'a> {
-    pub(crate) name: &'a [u8],
-    pub(crate) report: TextReport,
+pub struct Entry<'a> {
+    pub name: &'a [u8],
+    pub report: TextReport,
 }
 
 impl Entry<'_> {
     ghost use Rattle.peg_explain_files.specs.Entries.{entry_fault, entry_message, entry_verdict};
 
     /// Appends what is printed of the text on the output. Appends nothing, or a part of it, if an allocation fails.
-    pub(crate) fn write_message(&self, alloc: Global, out: &mut Vec<u8>) -> Result<(), AllocError>
+    pub fn write_message(&self, alloc: Global, out: &mut Vec<u8>) -> Result<(), AllocError>
         ensures { OnOk result (out.new.items ≡ out.old.items ++ entry_message self.now) }
     {
         match &self.report {
@@ -42,7 +42,7 @@ impl Entry<'_> {
     }
 
     /// Appends what is printed of the text on standard error. Appends nothing, or a part of it, if an allocation fails.
-    pub(crate) fn write_fault(&self, alloc: Global, out: &mut String) -> Result<(), AllocError>
+    pub fn write_fault(&self, alloc: Global, out: &mut String) -> Result<(), AllocError>
         ensures { OnOk result (string_bytes out.new ≡ string_bytes out.old ++ entry_fault self.now) }
     {
         match self.report {
@@ -69,7 +69,7 @@ impl Entry<'_> {
     }
 
     /// Returns the verdict of the text alone.
-    pub(crate) fn verdict(&self) -> Verdict
+    pub fn verdict(&self) -> Verdict
         ensures { result ≡ entry_verdict self.now }
     {
         match self.report {
@@ -84,7 +84,7 @@ impl Entry<'_> {
 }
 
 /// Appends a name, as messages show it, and what follows it.
-pub(crate) fn write_line(
+pub fn write_line(
     alloc: Global,
     name: &[u8],
     rest: &str,
@@ -98,7 +98,7 @@ pub(crate) fn write_line(
 }
 
 /// Appends the program's name, a name as messages show it, and what follows it.
-pub(crate) fn write_program_line(
+pub fn write_program_line(
     alloc: Global,
     name: &[u8],
     rest: &str,

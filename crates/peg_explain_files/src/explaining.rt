@@ -83,8 +83,8 @@ pub fn explain_files<O: Opener, I: Source, W: Sink>(
     }
 }
 
-// How an explanation ends if the grammar file can't be opened or read.
-fn unread_grammar(
+/// Returns how an explanation ends if the grammar file can't be opened or read.
+pub fn unread_grammar(
     alloc: Global,
     name: &str,
     rest: &str,
@@ -118,8 +118,8 @@ fn push_unread(
     }
 }
 
-// Writes the message of a refused grammar file.
-fn write_refusal<W: Sink>(
+/// Writes the message of a refused grammar file, and returns how an explanation ends then.
+pub fn write_refusal<W: Sink>(
     alloc: Global,
     output: &mut W,
     name: &str,
@@ -162,8 +162,8 @@ fn explain_by_parser<O: Opener, I: Source, W: Sink>(
     write_no_start(alloc, output, task.query.grammar, start, task.printing)
 }
 
-// Whether a rule has the name of the start, if one is given.
-fn has_start(parser: &Parser, options: &ParseOptions<'_>) -> bool
+/// Returns whether a rule has the name of the start, if one is given. Linear in the number of rules.
+pub fn has_start(parser: &Parser, options: &ParseOptions<'_>) -> bool
     ensures { result ≡ is_some (start_name (parser_rules parser.now) (start_named options.now)) }
 {
     match options.start {
@@ -172,8 +172,8 @@ fn has_start(parser: &Parser, options: &ParseOptions<'_>) -> bool
     }
 }
 
-// Writes that no rule has the name of the start.
-fn write_no_start<W: Sink>(
+/// Writes that no rule has the name of the start, and returns how an explanation ends then.
+pub fn write_no_start<W: Sink>(
     alloc: Global,
     output: &mut W,
     grammar: &str,

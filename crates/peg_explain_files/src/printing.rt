@@ -34,7 +34,7 @@ impl Printing {
 }
 
 /// Writes bytes, if they are printed. On an error only a proper prefix of them has been written.
-pub(crate) fn write_printed<W: Sink>(
+pub fn write_printed<W: Sink>(
     output: &mut W,
     bytes: &[u8],
     printing: Printing,
@@ -69,7 +69,7 @@ pub(crate) fn write_entry<W: Sink>(
 }
 
 /// Writes a message that is the only one, if it is printed, and returns how that ends.
-pub(crate) fn write_alone<W: Sink>(
+pub fn write_alone<W: Sink>(
     alloc: Global,
     output: &mut W,
     message: &[u8],

@@ -17,7 +17,7 @@ use std::alloc::{AllocError, Global};
 
 /// What is reported of a text.
 #[derive(Drop)]
-pub(crate) enum TextReport {
+pub enum TextReport {
     /// The text matches as a whole.
     Matches,
     /// The text doesn't match as a whole; the message says where.
@@ -35,7 +35,7 @@ pub(crate) enum TextReport {
 }
 
 /// Returns what is reported of the text with this name, which may be any bytes. The only error is a failed allocation.
-pub(crate) fn report_of_name<O: Opener>(
+pub fn report_of_name<O: Opener>(
     alloc: Global,
     files: &O,
     explainer: &Explainer<'_>,

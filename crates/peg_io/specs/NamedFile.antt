@@ -1,13 +1,14 @@
--- What is specified of the file with a name.
+-- What is specified of the file or folder with a name.
 use Rattle.std.specs.Prelude.{Bool, true, false, ℕ, List, Option, Some, None}
 
--- Nothing is specified, or the file can't be opened, or it holds these bytes. Reads of a file that holds bytes may fail;
--- those of a readable file don't.
+-- Nothing is specified, or the file can't be opened, or it holds these bytes, or it is a folder with files of these names.
+-- Reads of a file that holds bytes may fail; those of a readable file don't.
 pub data NamedFile : Type 0 where
   Unspecified : NamedFile
   Missing : NamedFile
   Holds : (bytes : List ℕ) → NamedFile
   Readable : (bytes : List ℕ) → NamedFile
+  Folder : (names : List (List ℕ)) → NamedFile
 
 -- the bytes of a file, if they are specified
 abbrev pub bytes_of : NamedFile → Option (List ℕ)
@@ -15,6 +16,7 @@ bytes_of Unspecified = None
 bytes_of Missing = None
 bytes_of (Holds bytes) = Some bytes
 bytes_of (Readable bytes) = Some bytes
+bytes_of (Folder names) = None
 
 -- whether it is specified that reads of a file don't fail
 abbrev pub is_readable : NamedFile → Bool
@@ -22,3 +24,20 @@ is_readable Unspecified = false
 is_readable Missing = false
 is_readable (Holds bytes) = false
 is_readable (Readable bytes) = true
+is_readable (Folder names) = false
+
+-- the names of the files in a folder, if they are specified
+abbrev pub names_in : NamedFile → Option (List (List ℕ))
+names_in Unspecified = None
+names_in Missing = None
+names_in (Holds bytes) = None
+names_in (Readable bytes) = None
+names_in (Folder names) = Some names
+
+-- it is specified that there is no such folder
+abbrev pub IsNoFolder : NamedFile → Type 0
+IsNoFolder Unspecified = ⊥
+IsNoFolder Missing = Unit {0}
+IsNoFolder (Holds bytes) = Unit {0}
+IsNoFolder (Readable bytes) = Unit {0}
+IsNoFolder (Folder names) = ⊥

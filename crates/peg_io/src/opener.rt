@@ -1,9 +1,11 @@
-//! Opening files by name.
-ghost use Rattle.std.specs.Prelude.{◌≡◌, ℕ, List, Some, true, false, IfOk, IfSome, IsErrAnd, IsSome};
-ghost use Rattle.peg_io.specs.NamedFile.{NamedFile, Missing, bytes_of, is_readable};
+//! Opening files and listing folders by name.
+ghost use Rattle.std.specs.Prelude.{◌≡◌, ◌++◌, ◌∷◌, [], ℕ, List, OnOk, Some, true, false, IfOk, IfSome, IsErr, IsErrAnd, IsSome};
+ghost use Rattle.std.specs.Prelude.{IsSorted, map, string_bytes, string_cmp};
+ghost use Rattle.peg_io.specs.NamedFile.{NamedFile, IsNoFolder, Missing, bytes_of, is_readable, names_in};
 ghost use Rattle.peg_io.specs.OpenFaults.{IsOfFile};
 
 use crate::device::{Device, Source};
+use std::alloc::{AllocError, Global};
 use std::fs::Files;
 use std::io::ErrorKind;
 use std::{fs, io};
@@ -37,12 +39,23 @@ impl From<io::Error> for OpenFault {
     }
 }
 
-/// Opens files by name.
+impl From<AllocError> for OpenFault {
+    ghost use Rattle.std.specs.Prelude.{◌≡◌};
+    ghost use Rattle.peg_io.specs.declared.opener.OpenFault.TheVariants.{Memory};
+
+    ghost from_gives = { λ _ fault. fault ≡ Memory };
+
+    fn from(_error: AllocError) -> OpenFault {
+        OpenFault::Memory
+    }
+}
+
+/// Opens files and lists folders by name.
 pub trait Opener {
     /// An open file, read from its start.
     type File: Source + Drop;
 
-    // what is specified of the file with the given name
+    // what is specified of the file or folder with the given name
     ghost file_at: { Self → List ℕ → NamedFile };
 
     /// Opens the file with the given name, to be read from its start. A returned file has no failed read yet. A file
@@ -55,6 +68,15 @@ pub trait Opener {
         ensures readable { IfOk result (λ file. is_readable (file_at self.now name.now) ≡ true
             → Self.File.never_fails file ≡ true) }
         ensures works { IfOk result (λ file. Self.File.failed file ≡ false) };
+
+    /// Returns the names of the files in the folder with the given name, in the order of their bytes. What is specified
+    /// to be no folder is an error. A folder with specified names isn't `OpenFault::File`.
+    fn list(&self, alloc: Global, name: &str) -> Result<Vec<String>, OpenFault>
+        ensures missing { IsNoFolder (file_at self.now name.now) → IsErr result }
+        ensures present { IsSome (names_in (file_at self.now name.now)) → ¬ IsErrAnd result IsOfFile }
+        ensures names { IfOk result (λ listed. IfSome (names_in (file_at self.now name.now))
+            (λ names. map string_bytes listed.items ≡ names)) }
+        ensures sorted { IfOk result (λ listed. IsSorted string_cmp listed.items) };
 }
 
 /// The files of a file system. Nothing is specified of them.
@@ -75,7 +97,7 @@ impl<'a, R> FileSystem<'a, R> {
     }
 }
 
-impl<'a, R: Files> Opener for FileSystem<'a, R> {
+impl<'a, R: Files + AllocGlobal + Clone + Drop> Opener for FileSystem<'a, R> {
     ghost use Rattle.peg_io.specs.NamedFile.{Unspecified};
 
     type File = Device<R::File>;
@@ -85,4 +107,22 @@ impl<'a, R: Files> Opener for FileSystem<'a, R> {
     fn open(&self, name: &str) -> Result<Device<R::File>, OpenFault> {
         Ok(Device::new(fs::open(self.files, name)?))
     }
+
+    // A name that isn't UTF-8 is an error.
+    fn list(&self, alloc: Global, name: &str) -> Result<Vec<String>, OpenFault> {
+        let mut names = Vec::new(alloc);
+        for entry in fs::read_dir(self.files, name)? {
+            push_name(alloc, &mut names, entry?.file_name())?;
+        }
+        names.sort_unstable();
+        Ok(names)
+    }
+}
+
+// Appends a name.
+fn push_name(alloc: Global, names: &mut Vec<String>, name: &str) -> Result<(), AllocError>
+    ensures { OnOk result (map string_bytes names.new.items ≡ map string_bytes names.old.items ++ name.now ∷ []) }
+{
+    names.push(String::from_str(alloc, name)?)?;
+    Ok(())
 }

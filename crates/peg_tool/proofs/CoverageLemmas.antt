@@ -1,5 +1,5 @@
 -- The lines of what texts use.
-use Rattle.std.proofs.Common.{◌≡◌, ◌≢◌, ◌∙◌, ℕ, All, Any, Bool, [], List, None, Option, Some, IfErr, IfOk, IfSome, Result, Ok, Err, ap, length, map}
+use Rattle.std.proofs.Common.{◌≡◌, ◌≢◌, ◌∙◌, ℕ, All, Bool, [], List, None, Option, Some, IfErr, IfOk, IfSome, Result, Ok, Err, ap, length, map, option_map}
 use Rattle.std.proofs.Common.{◌+◌, ◌<◌, ◌≤◌, ◌++◌, ◌∷◌, append-nil, arith, false, get_or, inl, inr, length-append, not, refl, string_bytes}
 use Rattle.std.proofs.Common.{subst, suc, sym, take, true}
 use Rattle.std.proofs.Math.ListN.{get_or-append}
@@ -10,11 +10,12 @@ use Rattle.std.proofs.lemmas.List.Concat.{flat_map-cons}
 use Rattle.std.specs.List.{flat_map}
 use Rattle.std.specs.Prelude.{Contains}
 use Rattle.std.specs.declared.io.ErrorKind.{ErrorKind}
-use Rattle.std.proofs.lemmas.List.Elements.{All-filter}
+use Rattle.std.proofs.lemmas.List.Elements.{All-filter, All-map}
+use Rattle.std.proofs.lemmas.Option.{get_or_from_slice_get, slice_get-map, slice_get_within}
 use Rattle.std.proofs.lemmas.List.FromFn.{get_or-range_with_len, length-range_with_len}
 use Rattle.std.specs.Io.KnownBytes.{Consumes, IsAtEnd, Keeps}
 use Rattle.std.specs.List.{range_with_len}
-use Rattle.std.proofs.lemmas.List.{get_or-map, length-map}
+use Rattle.std.proofs.lemmas.List.{get_or-map, length-map, take-map}
 use Rattle.peg_bytes.specs.Extent.{extent}
 use Rattle.peg_coverage.specs.Covered.{settings_of}
 use Rattle.peg_coverage.specs.CoverageFaults.{IsCoverageRefusal}
@@ -22,6 +23,7 @@ use Rattle.peg_coverage.specs.Unused.{IsCoverageOf, unused_rules}
 use Rattle.peg_coverage.specs.declared.coverage.Coverage.{Coverage}
 use Rattle.peg_coverage.specs.declared.fault.CoverageFault.{CoverageFault}
 use Rattle.peg_coverage.specs.declared.fault.CoverageFault.TheVariants as coverage
+use Rattle.peg_coverage_files.specs.CoveringFaults.{IsFirst, IsParsable, IsTooLong}
 use Rattle.peg_coverage_files.specs.NamedTexts.{files_named, texts_in}
 use Rattle.peg_coverage_files.proofs.CoveringLemmas.{stopped-below}
 use Rattle.peg_diagnostics.specs.Marked.{marked_rules}
@@ -124,16 +126,18 @@ coverage-replies rules files options from coverage is present of =
     (sym of.alternatives_unused i))
     (has_coverage is present of.covered)
 
--- what is true of the file of some name is true of some file
-pub any-file : (P : NamedFile → Type 0) (file_at : List ℕ → NamedFile) (names : List (List ℕ))
-    → Any (λ (name : List ℕ). P (file_at name)) names → Any P (map file_at names)
-any-file P file_at names any = (
-  any.0,
-  file_at any.1,
-  omega (arith, any.2, length-map names file_at),
-  get_or-map file_at names any.0 any.1 (file_at any.1) any.2 ∙ ap file_at any.3,
-  any.4,
-)
+-- the first name whose text is too long has the first file with such a text
+pub first-file : (file_at : List ℕ → NamedFile) (names : List (List ℕ))
+    → IsFirst (λ (name : List ℕ). IsParsable (file_at name)) (λ (name : List ℕ). IsTooLong (file_at name)) names
+    → IsFirst IsParsable IsTooLong (map file_at names)
+first-file file_at names first = record {
+  index = first.index;
+  element = file_at first.element;
+  here = slice_get-map file_at names first.index ∙ ap (option_map file_at) first.here;
+  before = subst (All IsParsable) (sym (take-map file_at first.index names))
+      (All-map IsParsable file_at (take first.index names) first.before);
+  is = first.is;
+}
 
 -- ---- unused rules
 
@@ -193,16 +197,6 @@ reply-held (Err why) task names (Some file) new held consumed within end right =
 
 -- ---- requests
 
--- no text is unreadable where all are readable
-pub none-unreadable : (file_at : List ℕ → NamedFile) (texts : List (List ℕ)) (unread : List ℕ)
-    → All (λ (text : List ℕ). is_readable (file_at text) ≡ true) texts
-    → Any (λ (name : List ℕ). (unread ≡ name) × (is_readable (file_at name) ≡ false)) texts → ⊥
-none-unreadable file_at texts unread all any =
-    let at = all any.0 any.1 any.2 in
-    let readable : is_readable (file_at any.1) ≡ true = ap (λ (t : List ℕ). is_readable (file_at t)) (sym any.3) ∙ at in
-    let both : true ≡ false = sym readable ∙ any.4.1 in
-    cc
-
 -- what is written of a reply is written for a request
 pub reply-written : (task : ToolTask) (names : List (List ℕ)) (held left old new : Option (List ℕ)) (reply : CoverageReply)
     (result : Result Findings ProgramFault) → IfSome held (λ bytes. left ≡ Some bytes)
@@ -239,16 +233,20 @@ fault-written task names (Some file) old new File keeps = λ text. inl keeps
 -- ---- the names of streams
 
 -- the name of an unread text is among the names of a request
-pub text-among : (first last unread : List ℕ) (names : List (List ℕ)) (P : List ℕ → Type 0)
-    → Any (λ (name : List ℕ). (unread ≡ name) × P name) names
+pub text-among : (first last unread : List ℕ) (names : List (List ℕ)) (IsBefore P : List ℕ → Type 0)
+    → IsFirst IsBefore (λ (name : List ℕ). (unread ≡ name) × P name) names
     → Contains (first ∷ map shown_name names ++ last ∷ []) (shown_name unread)
-text-among first last unread names P any =
+text-among first last unread names IsBefore P fault =
     let shown = map shown_name names in
-    let within : any.0 < length shown = omega (arith, any.2, length-map names shown_name) in (
-      suc any.0,
+    let inside = slice_get_within names fault.index fault.element fault.here in
+    let within : fault.index < length shown = omega (arith, inside, length-map names shown_name) in
+    let there : get_or names fault.index fault.element ≡ fault.element =
+    get_or_from_slice_get names fault.index fault.element fault.element fault.here in (
+      suc fault.index,
       omega (arith, within, length-append shown (last ∷ [])),
-      get_or-append shown (last ∷ []) (shown_name unread) any.0 within
-          ∙ (get_or-map shown_name names any.0 any.1 (shown_name unread) any.2 ∙ ap shown_name (any.3 ∙ sym any.4.0)),
+      get_or-append shown (last ∷ []) (shown_name unread) fault.index within
+          ∙ (get_or-map shown_name names fault.index fault.element (shown_name unread) inside
+          ∙ ap shown_name (there ∙ sym fault.is.0)),
     )
 
 -- so are the first name and the last one
@@ -265,7 +263,7 @@ pub text-faults-among : {X : Type 0} (first last : List ℕ) (names : List (List
     → IfErr result (IsFaultAmong (first ∷ map shown_name names ++ last ∷ []))
 text-faults-among first last names file_at (Ok x) is = tt
 text-faults-among first last names file_at (Err (failed.Device (streams.File unread) kind)) is =
-    text-among first last unread.now names (λ name. is_readable (file_at name) ≡ false) is
+    text-among first last unread.now names (λ name. IsParsable (file_at name)) (λ name. is_readable (file_at name) ≡ false) is
 text-faults-among first last names file_at (Err (failed.Device streams.Input kind)) is = absurd is
 text-faults-among first last names file_at (Err (failed.Device streams.Output kind)) is = absurd is
 text-faults-among first last names file_at (Err failed.Memory) is = tt

@@ -9,7 +9,7 @@ use Rattle.peg_messages.specs.FileNames.{shown_name}
 use Rattle.peg_tool.specs.Exits.{IsDeviceExit, IsExitAmong, IsExitFor, IsExitNaming, IsExitOfCause, IsExitOfResult, IsFileExit}
 use Rattle.peg_tool.specs.Exits.{exit_fault, report_exit}
 use Rattle.peg_tool.specs.Faults.{IsFaultAmong, IsFaultAt, IsKind, NamesCause, plain_result, standard_input, stream_name}
-use Rattle.peg_tool.specs.Requests.{ToolRequest, InputRequest, HelpRequest, FileRequest, FilesRequest, CoverRequest, ExplainRequest}
+use Rattle.peg_tool.specs.Requests.{ToolRequest, InputRequest, HelpRequest, FileRequest, FilesRequest, CoverRequest, ExplainRequest, TestRequest}
 use Rattle.peg_tool.specs.declared.exit.Exit.{Exit}
 use Rattle.peg_tool.specs.declared.exit.Exit.TheVariants.{Done, Reported, Usage, Device, Fault}
 use Rattle.peg_tool.specs.declared.fault.RequestFault.{RequestFault}
@@ -149,6 +149,7 @@ exit-cause (CoverRequest start memo steps g texts) file_at ended exit is names =
     (err-map ended (NamesCause (CoverRequest start memo steps g texts) file_at) (IsFaultAt (shown_name g) None)
     (λ fault n. n missing) names)
 exit-cause (ExplainRequest question printing) file_at ended exit is names = tt
+exit-cause (TestRequest question) file_at ended exit is names = tt
 
 -- what holds of the arguments holds of the result with them
 pub if-ok : {T E : Type 0} (given : Result T E) (value : T) (P : T → Type 0) → given ≡ Ok value → P value → IfOk given P

@@ -10,4 +10,5 @@ mod ProgramLemmas
 mod ReportLemmas
 mod RunLemmas
 mod SelectedAnswers
+mod TestedLemmas
 mod WriteLemmas

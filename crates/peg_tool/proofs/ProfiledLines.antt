@@ -10,6 +10,7 @@ use Rattle.peg_machine.specs.declared.answer.Answer.{Answer}
 use Rattle.peg_semantics.specs.Rules.{Rule, is_defined, names}
 use Rattle.peg_semantics.specs.Starts.{start_name}
 use Rattle.peg_tree.specs.declared.outcome.Parsed.{Parsed}
+use Rattle.peg_parser.specs.Calls.{AreStepsOf}
 use Rattle.peg_parser.specs.Cause.{NoSuchStart, TextTooLong}
 use Rattle.peg_parser.specs.declared.parser.ParseFault.{ParseFault}
 use Rattle.peg_parser.specs.declared.parser.ParseFault.TheVariants as fault
@@ -30,7 +31,7 @@ pub profile-replies : (rules : List Rule) (text : List ℕ) (start : Option (Lis
     → IfSome profile.answer (λ answer. IfSome (start_name rules start)
     (λ from. IsParseOutcome rules text from answer.outcome))
     → IfSome profile.answer (λ answer. IfSome (start_name rules start)
-    (λ from. AreProfilesOfParse rules text from memo profile.rules.items))
+    (λ from. AreProfilesOfParse rules text from memo answer.outcome.result profile.steps profile.rules.items))
     → (memo ≡ 0 → IfSome profile.answer (λ answer. ¬ TakesMoreSteps rules text start steps))
     → (memo ≡ 0 → IfSome profile.answer (λ answer. (count : ℕ) × TakesPlainSteps rules text start count
     × (profile.steps ≡ saturated count)))
@@ -47,7 +48,7 @@ profile-replies rules text start memo steps profile within some is called enough
     by : (answer : Option Answer) (found : Option (List ℕ)) → start_name rules start ≡ found → (found ≡ None → ⊥)
         → IfSome answer (λ answer. IfSome found (λ from. IsParseOutcome rules text from answer.outcome))
         → IfSome answer (λ answer. IfSome found
-        (λ from. AreProfilesOfParse rules text from memo profile.rules.items))
+        (λ from. AreProfilesOfParse rules text from memo answer.outcome.result profile.steps profile.rules.items))
         → (memo ≡ 0 → IfSome answer (λ answer. ¬ TakesMoreSteps rules text start steps))
         → (memo ≡ 0 → IfSome answer (λ answer. (count : ℕ) × TakesPlainSteps rules text start count
         × (profile.steps ≡ saturated count)))
@@ -59,7 +60,9 @@ profile-replies rules text start memo steps profile within some is called enough
     by (Some answer) (Some from) there some is called enough exact stopped more limit =
         subst (λ (parsed : Parsed). ProfilesTo rules text start memo steps
         (Profiled (parsed_end parsed) profile.steps (names rules) profile.rules.items)) (sym is.1.2)
-        (has_profile within enough there (is.0, is.1.1) (taken, exact) called.1 called.2 called.3)
+        (has_profile within enough there (is.0, is.1.1) (taken, exact) called.1 called.2
+        (λ some. subst (λ (parsed : Parsed). AreStepsOf rules text called.0 parsed profile.steps) is.1.2 (called.3 some))
+        called.4)
     by None (Some from) there some is called enough exact stopped more limit =
         steps_over_limit within there limit more stopped.1 stopped.2 stopped.3
 

@@ -8,7 +8,8 @@ use Rattle.peg_io.specs.NamedFile.{NamedFile, bytes_of}
 use Rattle.peg_tool.specs.CoverageOutcome.{CoverageOutcome}
 use Rattle.peg_tool.specs.Explanations.{ExplanationOutcome}
 use Rattle.peg_tool.specs.Replies.{IsPrinted, IsPrintedJoined}
-use Rattle.peg_tool.specs.Requests.{ToolRequest, InputRequest, HelpRequest, FileRequest, FilesRequest, CoverRequest, ExplainRequest}
+use Rattle.peg_tool.specs.TestOutcome.{TestOutcome}
+use Rattle.peg_tool.specs.Requests.{ToolRequest, InputRequest, HelpRequest, FileRequest, FilesRequest, CoverRequest, ExplainRequest, TestRequest}
 use Rattle.peg_tool.specs.Written.{PrintsInPart}
 use Rattle.peg_tool.specs.declared.report.Findings.{Findings}
 use Rattle.peg_tool.specs.declared.program.ProgramFault.{ProgramFault}
@@ -28,7 +29,7 @@ WritesOrFails IsRight old new (Err File) = Keeps old new ⊎ PrintsInPart IsRigh
 abbrev pub IsHelp : (text : List ℕ) → (line : List ℕ) → (status : ℕ) → Type 0
 IsHelp text line status = (line ≡ text) × (status ≡ 0)
 
--- what is reported of an exit status, and of an explanation or a coverage
+-- what is reported of an exit status, and of an explanation, a test or a coverage
 abbrev pub done_result : Result ℕ ProgramFault → Result Report ProgramFault
 done_result (Ok status) = Ok (report.Done status)
 done_result (Err fault) = Err fault
@@ -58,6 +59,8 @@ RequestOutcome (CoverRequest start memo steps g texts) file_at input old new end
 RequestOutcome (ExplainRequest question printing) file_at input old new ended =
     (found : Result Findings ProgramFault) × ExplanationOutcome question printing file_at input old new found
     × (ended ≡ found_result found)
+RequestOutcome (TestRequest question) file_at input old new ended =
+    (found : Result Findings ProgramFault) × TestOutcome question file_at old new found × (ended ≡ found_result found)
 
 -- the exit status of a report
 abbrev pub report_status : Report → ℕ

@@ -3,12 +3,13 @@ use Rattle.std.specs.Prelude.{map, option_map, string_bytes}
 use Rattle.peg_explain_files.specs.Questions.{question_of}
 use Rattle.peg_cli.specs.declared.words.Words.{Words}
 use Rattle.peg_cli.specs.declared.words.Words.TheVariants as words
+use Rattle.peg_test_files.specs.TestQuestions as asked
 use Rattle.peg_parser.specs.Parser.{start_named}
 use Rattle.peg_parser.specs.declared.options.ParseOptions.{ParseOptions}
 use Rattle.peg_json.specs.TreeForms.{form_from_options}
 use Rattle.peg_tool.specs.PrintedNodes.{PrintedNodes, AllNodes, NodesOf, NodesExcept, names_listed}
 use Rattle.peg_tool.specs.Task.{ToolTask, TableTask, CheckTask, CodeTask, LintTask, ProfileTask, ParseTask}
-use Rattle.peg_tool.specs.Requests.{ToolRequest, InputRequest, HelpRequest, FileRequest, FilesRequest, CoverRequest, ExplainRequest}
+use Rattle.peg_tool.specs.Requests.{ToolRequest, InputRequest, HelpRequest, FileRequest, FilesRequest, CoverRequest, ExplainRequest, TestRequest}
 use Rattle.peg_tool.specs.declared.command.Command.{Command}
 use Rattle.peg_tool.specs.declared.command.Command.TheVariants.{Table, Check, Code, Lint, Profile, Parse}
 use Rattle.peg_tool.specs.declared.nodes.Nodes.{Nodes}
@@ -48,6 +49,7 @@ request_of (request.OnFiles g t command) = FilesRequest (task_of command) g.now 
 request_of (request.Cover g texts options) =
     CoverRequest (start_named options) options.memo options.steps g.now (map string_bytes texts.now)
 request_of (request.Explain query printing) = ExplainRequest (question_of query) printing
+request_of (request.Test query) = TestRequest (asked.question_of query)
 
 -- the arguments are those of a parse
 abbrev pub IsParseWords : Words → Type 0

@@ -11,7 +11,7 @@ use Rattle.peg_cli.specs.declared.words.WordsFault.{WordsFault}
 use Rattle.peg_cli.specs.declared.words.WordsFault.TheVariants as words
 use Rattle.peg_tool.specs.CommandOutcome.{RequestOutcome}
 use Rattle.peg_tool.specs.Faults.{IsKind, device_message, standard_input, stream_name}
-use Rattle.peg_tool.specs.Requests.{ToolRequest, InputRequest, HelpRequest, FileRequest, FilesRequest, CoverRequest, ExplainRequest}
+use Rattle.peg_tool.specs.Requests.{ToolRequest, InputRequest, HelpRequest, FileRequest, FilesRequest, CoverRequest, ExplainRequest, TestRequest}
 use Rattle.peg_tool.specs.declared.exit.Exit.{Exit}
 use Rattle.peg_tool.specs.declared.exit.Exit.TheVariants.{Done, Reported, Usage, Device, Fault}
 use Rattle.peg_tool.specs.declared.fault.RequestFault.{RequestFault}
@@ -66,7 +66,7 @@ IsExitNaming name (Device text) = (kind : ErrorKind) × (string_bytes text ≡ d
 IsExitNaming name other = Unit {0}
 
 -- Which stream a second line names if the output has not failed: a grammar file that is missing; the text if the grammar
--- file is readable, and the grammar file if the text is. An explanation has no such line.
+-- file is readable, and the grammar file if the text is. An explanation or a test has no such line.
 abbrev pub IsExitOfCause : ToolRequest → (file_at : List ℕ → NamedFile) → Exit → Type 0
 IsExitOfCause InputRequest file_at exit = IsExitNaming standard_input exit
 IsExitOfCause (HelpRequest text) file_at exit = Unit {0}
@@ -77,6 +77,7 @@ IsExitOfCause (FilesRequest task g t) file_at exit = (file_at g ≡ Missing → 
 IsExitOfCause (CoverRequest start memo steps g texts) file_at exit =
     file_at g ≡ Missing → IsExitNaming (shown_name g) exit
 IsExitOfCause (ExplainRequest question printing) file_at exit = Unit {0}
+IsExitOfCause (TestRequest question) file_at exit = Unit {0}
 
 -- an exit with a second line names one of these files or streams
 abbrev pub IsExitAmong : (names : List (List ℕ)) → Exit → Type 0

@@ -4,7 +4,7 @@ use Rattle.std.specs.declared.io.ErrorKind.{ErrorKind}
 use Rattle.peg_io.specs.NamedFile.{NamedFile, Missing, is_readable}
 use Rattle.peg_io.specs.Reasons.{reason_of}
 use Rattle.peg_messages.specs.FileNames.{shown_name}
-use Rattle.peg_tool.specs.Requests.{ToolRequest, InputRequest, HelpRequest, FileRequest, FilesRequest, CoverRequest, ExplainRequest}
+use Rattle.peg_tool.specs.Requests.{ToolRequest, InputRequest, HelpRequest, FileRequest, FilesRequest, CoverRequest, ExplainRequest, TestRequest}
 use Rattle.peg_tool.specs.declared.fault.RequestFault.{RequestFault}
 use Rattle.peg_tool.specs.declared.fault.RequestFault.TheVariants as failed
 use Rattle.peg_tool.specs.declared.fault.Stream.{Stream}
@@ -24,7 +24,8 @@ abbrev pub device_message : (name : List ℕ) → ErrorKind → List ℕ
 device_message name kind =
     (codes "pegtool: file fault" ++ 10 ∷ []) ++ name ++ codes ": " ++ reason_of kind ++ codes "\n"
 
--- What a request opens, reads or writes, by the names in messages. An explanation has lines of its own for its files.
+-- What a request opens, reads or writes, by the names in messages. An explanation or a test has
+-- lines of its own for its files.
 abbrev pub stream_names : ToolRequest → List (List ℕ)
 stream_names InputRequest = standard_input ∷ standard_output ∷ []
 stream_names (HelpRequest text) = standard_output ∷ []
@@ -32,6 +33,7 @@ stream_names (FileRequest task g) = shown_name g ∷ standard_output ∷ []
 stream_names (FilesRequest task g t) = shown_name g ∷ shown_name t ∷ standard_output ∷ []
 stream_names (CoverRequest start memo steps g texts) = shown_name g ∷ map shown_name texts ++ standard_output ∷ []
 stream_names (ExplainRequest question printing) = standard_output ∷ []
+stream_names (TestRequest question) = standard_output ∷ []
 
 -- a kind of error that is known is this one
 abbrev pub IsKind : Option ErrorKind → ErrorKind → Type 0
@@ -65,7 +67,7 @@ IsFaultAmong names (failed.Device at kind) = Contains names (stream_name at)
 IsFaultAmong names failed.Memory = Unit {0}
 
 -- Which stream a fault of a device names if the output has not failed: a grammar file that is missing; the text if the
--- grammar file is readable, and the grammar file if the text is. An explanation has no such fault.
+-- grammar file is readable, and the grammar file if the text is. An explanation or a test has no such fault.
 abbrev pub NamesCause : ToolRequest → (file_at : List ℕ → NamedFile) → RequestFault → Type 0
 NamesCause InputRequest file_at it = IsFaultAt standard_input None it
 NamesCause (HelpRequest text) file_at it = Unit {0}
@@ -75,3 +77,4 @@ NamesCause (FilesRequest task g t) file_at it = (file_at g ≡ Missing → IsFau
     × (is_readable (file_at t) ≡ true → IsFaultAt (shown_name g) None it)
 NamesCause (CoverRequest start memo steps g texts) file_at it = file_at g ≡ Missing → IsFaultAt (shown_name g) None it
 NamesCause (ExplainRequest question printing) file_at it = Unit {0}
+NamesCause (TestRequest question) file_at it = Unit {0}

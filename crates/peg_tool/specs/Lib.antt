@@ -26,6 +26,10 @@ pub use Rattle.peg_parser.specs.Accepts
 pub use Rattle.peg_parser.specs.Cause
 pub use Rattle.peg_parser.specs.Parser
 pub use Rattle.peg_parser.specs.Refusals
+pub use Rattle.peg_test_files.specs.FolderTexts
+pub use Rattle.peg_test_files.specs.TestQuestions
+pub use Rattle.peg_test_files.specs.Tested
+pub use Rattle.peg_test_files.specs.Trials
 pub use Rattle.peg_json.specs.CoverageText
 pub use Rattle.peg_json.specs.Lines
 pub use Rattle.peg_json.specs.Lints
@@ -50,4 +54,5 @@ pub mod Replies
 pub mod RequestContract
 pub mod Requests
 pub mod Task
+pub mod TestOutcome
 pub mod Written

@@ -2,7 +2,7 @@
 use Rattle.std.specs.Prelude.{◌≡◌, ◌⊎◌, ◌↔◌, ℕ, Bool, true, IsSome, List, Option, Some}
 use Rattle.std.specs.Io.KnownBytes.{Keeps}
 use Rattle.peg_io.specs.NamedFile.{NamedFile}
-use Rattle.peg_tool.specs.Requests.{ToolRequest, HasReadableFiles, IsExplainRequest, LacksGrammar, LacksText, ReadsInput}
+use Rattle.peg_tool.specs.Requests.{ToolRequest, HasReadableFiles, IsExplainRequest, IsTestRequest, LacksGrammar, LacksText, ReadsInput}
 use Rattle.peg_tool.specs.declared.program.ProgramFault.{ProgramFault}
 use Rattle.peg_tool.specs.declared.program.ProgramFault.TheVariants.{File, Memory}
 
@@ -21,5 +21,7 @@ pub record EndsAs (request : ToolRequest) (file_at : List ℕ → NamedFile) (fa
   pub write_fault : output_failed ≡ true → fault ≡ Some File
   -- of an explanation, only a failed output is a file fault
   pub explain_fault : IsExplainRequest request → ((fault ≡ Some File) ↔ (output_failed ≡ true))
+  -- the same of a test
+  pub test_fault : IsTestRequest request → ((fault ≡ Some File) ↔ (output_failed ≡ true))
   -- if an allocation fails nothing is written
   pub memory : ¬ IsExplainRequest request → fault ≡ Some Memory → Keeps old new

@@ -1,5 +1,5 @@
 -- What the arguments of the program request.
-use Rattle.std.specs.Prelude.{◌≡◌, true, ℕ, All, List, Option, map, option_map, string_bytes}
+use Rattle.std.specs.Prelude.{◌≡◌, false, true, ℕ, All, List, Option, map, option_map, string_bytes}
 use Rattle.peg_explain.specs.Styles.{style_of}
 use Rattle.peg_explain_files.specs.Names.{IsInput, name_end}
 use Rattle.peg_explain_files.specs.Printings.{printing_of}
@@ -7,15 +7,16 @@ use Rattle.peg_explain_files.specs.Questions.{Question}
 use Rattle.peg_explain_files.specs.declared.printing.Printing.{Printing}
 use Rattle.peg_io.specs.NamedFile.{NamedFile, Missing, is_readable}
 use Rattle.peg_cli.specs.declared.words.Words.{Words}
-use Rattle.peg_cli.specs.declared.words.Words.TheVariants.{Joined, Help, Table, Check, Code, Lint, Profile, Coverage, Explain, Parse}
+use Rattle.peg_cli.specs.declared.words.Words.TheVariants.{Joined, Help, Table, Check, Code, Lint, Profile, Coverage, Explain, Test, Parse}
 use Rattle.peg_lint.specs.FileWarnings.{selection_of}
 use Rattle.peg_json.specs.TreeForms.{form_from_options}
+use Rattle.peg_test_files.specs.TestQuestions.{TestQuestion}
 use Rattle.peg_tool.specs.PrintedNodes.{nodes_from_options}
 use Rattle.peg_tool.specs.Task.{ToolTask, TableTask, CheckTask, CodeTask, LintTask, ProfileTask, ParseTask}
 
 -- A request: the default task on a grammar file and a text from one input, a help text, a task on the grammar file with
--- a name, a task on a grammar file and a text with two names, what the texts with some names use of a grammar file, or
--- an explanation of texts.
+-- a name, a task on a grammar file and a text with two names, what the texts with some names use of a grammar file, an
+-- explanation of texts, or a test of the texts in folders.
 pub data ToolRequest : Type 0 where
   InputRequest : ToolRequest
   HelpRequest : (text : List ℕ) → ToolRequest
@@ -24,6 +25,7 @@ pub data ToolRequest : Type 0 where
   CoverRequest : (start : Option (List ℕ)) → (memo : ℕ) → (steps : Option ℕ) → (g : List ℕ) → (texts : List (List ℕ))
       → ToolRequest
   ExplainRequest : (question : Question) → (printing : Printing) → ToolRequest
+  TestRequest : (question : TestQuestion) → ToolRequest
 
 -- what the arguments request
 abbrev pub requested : Words → ToolRequest
@@ -49,6 +51,14 @@ requested (Explain g texts files_from null start memo steps rules terminals quie
       steps = steps;
       style = style_of rules terminals;
     } (printing_of quiet)
+requested (Test g folders start memo steps) = TestRequest record {
+  grammar = string_bytes g;
+  folders = map string_bytes folders.items;
+  start = option_map string_bytes start;
+  memo = memo;
+  steps = steps;
+  style = style_of false false;
+}
 requested (Parse g t start memo steps all rows no_tree show hide text) =
     FilesRequest (ParseTask (option_map string_bytes start) memo steps all (form_from_options rows no_tree)
     (nodes_from_options (option_map string_bytes show) (option_map string_bytes hide)) text)
@@ -56,7 +66,7 @@ requested (Parse g t start memo steps all rows no_tree show hide text) =
 
 -- ---- files of a request
 
--- The grammar file that a request names can't be opened. An explanation reports that itself.
+-- The grammar file that a request names can't be opened. An explanation or a test reports that itself.
 abbrev pub LacksGrammar : ToolRequest → (file_at : List ℕ → NamedFile) → Type 0
 LacksGrammar InputRequest file_at = ⊥
 LacksGrammar (HelpRequest text) file_at = ⊥
@@ -64,6 +74,7 @@ LacksGrammar (FileRequest task g) file_at = file_at g ≡ Missing
 LacksGrammar (FilesRequest task g t) file_at = file_at g ≡ Missing
 LacksGrammar (CoverRequest start memo steps g texts) file_at = file_at g ≡ Missing
 LacksGrammar (ExplainRequest question printing) file_at = ⊥
+LacksGrammar (TestRequest question) file_at = ⊥
 
 -- The text file that a request names can't be opened. For what texts use, texts are opened after the grammar is read.
 abbrev pub LacksText : ToolRequest → (file_at : List ℕ → NamedFile) → Type 0
@@ -73,6 +84,7 @@ LacksText (FileRequest task g) file_at = ⊥
 LacksText (FilesRequest task g t) file_at = file_at t ≡ Missing
 LacksText (CoverRequest start memo steps g texts) file_at = ⊥
 LacksText (ExplainRequest question printing) file_at = ⊥
+LacksText (TestRequest question) file_at = ⊥
 
 -- the files that a request names hold specified bytes, and reads of them don't fail
 abbrev pub HasReadableFiles : ToolRequest → (file_at : List ℕ → NamedFile) → Type 0
@@ -83,8 +95,9 @@ HasReadableFiles (FilesRequest task g t) file_at = (is_readable (file_at g) ≡ 
 HasReadableFiles (CoverRequest start memo steps g texts) file_at =
     (is_readable (file_at g) ≡ true) × All (λ text. is_readable (file_at text) ≡ true) texts
 HasReadableFiles (ExplainRequest question printing) file_at = ⊥
+HasReadableFiles (TestRequest question) file_at = ⊥
 
--- ---- explanations
+-- ---- explanations and tests
 
 -- whether an explanation is requested, which reports files that can't be opened or read itself
 abbrev pub IsExplainRequest : ToolRequest → Type 0
@@ -94,6 +107,17 @@ IsExplainRequest (FileRequest task g) = ⊥
 IsExplainRequest (FilesRequest task g t) = ⊥
 IsExplainRequest (CoverRequest start memo steps g texts) = ⊥
 IsExplainRequest (ExplainRequest question printing) = Unit {0}
+IsExplainRequest (TestRequest question) = ⊥
+
+-- whether a test of texts is requested, which does so, too
+abbrev pub IsTestRequest : ToolRequest → Type 0
+IsTestRequest InputRequest = ⊥
+IsTestRequest (HelpRequest text) = ⊥
+IsTestRequest (FileRequest task g) = ⊥
+IsTestRequest (FilesRequest task g t) = ⊥
+IsTestRequest (CoverRequest start memo steps g texts) = ⊥
+IsTestRequest (ExplainRequest question printing) = ⊥
+IsTestRequest (TestRequest question) = Unit {0}
 
 -- whether a request is about the input
 abbrev pub ReadsInput : ToolRequest → Type 0
@@ -103,3 +127,4 @@ ReadsInput (FileRequest task g) = ⊥
 ReadsInput (FilesRequest task g t) = ⊥
 ReadsInput (CoverRequest start memo steps g texts) = ⊥
 ReadsInput (ExplainRequest question printing) = IsInput question.list
+ReadsInput (TestRequest question) = ⊥

@@ -38,8 +38,8 @@ pub(crate) fn explain<'a, O: Opener, I: Source, W: Sink>(
     }
 }
 
-// The exit status and the lines for standard error of an explanation.
-fn findings_of(ended: Ended) -> Findings
+/// Returns the exit status and the lines for standard error of an explanation or a test.
+pub(crate) fn findings_of(ended: Ended) -> Findings
     ensures { result ≡ findings_of ended }
 {
     let Ended { faults, verdict } = ended;

@@ -16,6 +16,7 @@ mod program;
 mod report;
 mod request;
 mod selection;
+mod testing;
 mod tool;
 mod tree_printing;
 mod write;
@@ -35,6 +36,7 @@ pub use peg_parser::{
     Answer, FigureFault, ParseFault, ParseOptions, Parser, Refusal, read_by_figure,
 };
 pub use peg_profile::{Profile, RuleProfile};
+pub use peg_test_files::TestQuery;
 pub use program::{ProgramFault, run_words};
 pub use request::Request;
 pub use tool::run_tool;

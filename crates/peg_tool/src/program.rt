@@ -22,6 +22,7 @@ use crate::explaining::explain;
 use crate::fault::{RequestFault, Stream};
 use crate::report::{Findings, Report};
 use crate::request::Request;
+use crate::testing::test;
 use crate::write::write_request_reply;
 use crate::{joined, tool};
 use peg_cli::Words;
@@ -86,7 +87,8 @@ impl From<AllocError> for ProgramFault {
 ///
 /// Returns `File` if a file can't be opened or read, or if the output can't be written. Returns `Memory`, with nothing
 /// written, if an allocation fails. For an explanation of texts, a file that can't be opened or read is status 4, and
-/// the other texts are read; `run_program` names it. The messages of the texts before a failed allocation are written.
+/// the other texts are read; `run_program` names it. The messages of the texts before a failed allocation are written. For
+/// a test of texts, a file or a folder is reported in the same way, and nothing is written before the end.
 /// No device may have failed before.
 pub fn run_words<O: Opener, I: Source, W: Sink>(
     alloc: Global,
@@ -148,6 +150,7 @@ pub(crate) fn run_request<'a, O: Opener, I: Source, W: Sink>(
         Request::Explain { query, printing } => {
             Ok(Report::Found(explain(alloc, files, input, output, &query, printing)?))
         }
+        Request::Test { query } => Ok(Report::Found(test(alloc, files, output, &query)?)),
     }
 }
 

@@ -1,8 +1,10 @@
 //! What the arguments of the program request.
-ghost use Rattle.std.specs.Prelude.{◌≡◌, option_map};
+ghost use Rattle.std.specs.Prelude.{◌≡◌, false, map, option_map, string_bytes};
+ghost use Rattle.peg_explain.specs.Styles.{style_of};
 ghost use Rattle.peg_lint.specs.FileWarnings.{selection_of};
+ghost use Rattle.peg_parser.specs.Parser.{start_named};
 ghost use Rattle.peg_tool.specs.Commands.{IsParseWords, request_of, task_of};
-ghost use Rattle.peg_tool.specs.Requests.{FileRequest, IsExplainRequest, requested};
+ghost use Rattle.peg_tool.specs.Requests.{FileRequest, IsExplainRequest, TestRequest, requested};
 ghost use Rattle.peg_tool.specs.Task.{LintTask};
 
 use crate::command::Command;
@@ -11,6 +13,7 @@ use peg_cli::Words;
 use peg_explain_files::{ItemStyle, NameEnd, Printing, Query};
 use peg_lint::Selection;
 use peg_parser::ParseOptions;
+use peg_test_files::TestQuery;
 
 /// What the arguments of the program request.
 #[derive(Clone, Copy, Debug, PartialEq, Eq)]
@@ -42,6 +45,10 @@ pub enum Request<'a> {
     Explain {
         query: Query<'a>,
         printing: Printing,
+    },
+    /// Tests the texts in folders by a grammar file.
+    Test {
+        query: TestQuery<'a>,
     },
 }
 
@@ -81,6 +88,17 @@ impl<'a> Request<'a> {
                 Request::Cover { g, texts, options }
             }
             Words::Explain { .. } => request_explanation(words),
+            Words::Test {
+                g,
+                folders,
+                start,
+                memo,
+                steps,
+            } => {
+                let (start, memo, steps) = (start.as_deref(), *memo, *steps);
+                let options = ParseOptions { start, memo, steps };
+                request_test(g, folders, options)
+            }
             Words::Parse { .. } => request_parse(words),
         }
     }
@@ -133,6 +151,26 @@ fn request_explanation(words: &Words) -> Request<'_>
     };
     let printing = Printing::from_quiet(*quiet);
     Request::Explain { query, printing }
+}
+
+// Requests a test of the texts in these folders.
+fn request_test<'a>(g: &'a str, folders: &'a [String], options: ParseOptions<'a>) -> Request<'a>
+    ensures { request_of result ≡ TestRequest record {
+      grammar = g.now;
+      folders = map string_bytes folders.now;
+      start = start_named options.entry;
+      memo = options.entry.memo;
+      steps = options.entry.steps;
+      style = style_of false false;
+    } }
+{
+    let query = TestQuery {
+        grammar: g,
+        folders,
+        options,
+        style: ItemStyle::from_flags(false, false),
+    };
+    Request::Test { query }
 }
 
 // Requests a parse.

@@ -70,3 +70,12 @@ The example of explain has no message about a text that matches as a whole.
   Example: pegtool explain grammar.peg *.txt
 
   $ cp text text.txt; pegtool explain grammar.peg *.txt
+
+A folder has a text that matches and one that doesn't.
+
+  $ pegtool test --help | grep '^Example: '
+  Example: pegtool test grammar.peg tests
+
+  $ mkdir tests; cp text tests/match_two; printf , > tests/no_match_comma
+  $ pegtool test grammar.peg tests
+  2 passed, 0 failed, 0 ignored

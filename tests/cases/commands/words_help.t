@@ -11,8 +11,8 @@ The help of the program names the commands, and the extensions of Ford's notatio
   $ grep -o -e 'Usage: pegtool <COMMAND>' -e "explain  Prints where texts don't match a grammar" h
   Usage: pegtool <COMMAND>
   explain  Prints where texts don't match a grammar
-  $ grep -o -e '`explain` prints' -e 'messages for people' -e 'Example: pegtool parse grammar\.peg text' h
-  `explain` prints
+  $ grep -o -e '`explain` and `test`' -e 'messages for people' -e 'Example: pegtool parse grammar\.peg text' h
+  `explain` and `test`
   messages for people
   Example: pegtool parse grammar.peg text
   $ grep -o -e 'may be written as `\\xHH`' -e '`e{2,4}` two to four' h

@@ -4,7 +4,7 @@ use Rattle.peg_coverage_files.specs.NamedTexts.{files_named}
 use Rattle.peg_grammar.specs.GrammarRules.{rules_in}
 use Rattle.peg_parser.specs.Parser.{start_named}
 use Rattle.peg_semantics.specs.Starts.{start_name}
-use Rattle.peg_coverage_files.specs.CoveringFaults.{IsFaultOf, IsTooLong}
+use Rattle.peg_coverage_files.specs.CoveringFaults.{IsFaultOf}
 use Rattle.peg_coverage_files.specs.declared.fault.CoveringFault.{CoveringFault}
 use Rattle.peg_json.specs.Lines.{IsReply, line_bytes}
 use Rattle.peg_json.specs.Reply.{Refused}
@@ -12,7 +12,7 @@ use Rattle.peg_json.specs.Statuses.{status_code}
 use Rattle.peg_json.proofs.ParseLemmas.{start-given}
 use Rattle.peg_parser.specs.Cause.{NoSuchStart, TextTooLong}
 use Rattle.peg_tool.specs.CoverageReplies.{CoversTo, a_text_over_limit, start_unknown}
-use Rattle.peg_tool.proofs.CoverageLemmas.{any-file, coverage-replies, line-alone, stopped-named, unused-below}
+use Rattle.peg_tool.proofs.CoverageLemmas.{coverage-replies, first-file, line-alone, stopped-named, unused-below}
 use Rattle.peg_tool.proofs.ParsedLines.{given-name}
 use Rattle.peg_tool.proofs.covering.cover_by_parser.Goals as goal
 
@@ -73,10 +73,10 @@ returns-in_ok-line-in-Err-TextTooLong-clause-answer g c =
     let file_at = g.O.Opener.file_at c.args.files.now in
     let names = map string_bytes c.args.names.now in
     let options = c.args.options.now in
-    let any = subst (λ (why : CoveringFault). IsFaultOf rules file_at names (start_named options) why)
+    let first = subst (λ (why : CoveringFault). IsFaultOf rules file_at names (start_named options) why)
     c.in-Err-TextTooLong.field-0-is (c.in-Err-TextTooLong.ensures.refused rules c.requires) in
     line-alone c.line_alone-in-Err-TextTooLong.result c.in_ok-line-in-Err-TextTooLong.line names c.args.file.now
     (CoversTo rules (files_named file_at c.args.names.now) (start_named options) options.memo options.steps)
     (Refused TextTooLong) c.line_alone-in-Err-TextTooLong.ensures.line c.line_alone-in-Err-TextTooLong.ensures.faults
     (c.in_ok-line-in-Err-TextTooLong.ensures c.args.file.now) refl
-    (a_text_over_limit (any-file IsTooLong file_at names any))
+    (a_text_over_limit (first-file file_at names first))

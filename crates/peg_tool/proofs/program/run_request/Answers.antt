@@ -98,3 +98,32 @@ returns-in_err-explain-in-Explain-clause-named g c =
     (passed-among (standard_output ∷ []) _ passed.result
     (at-among _ (standard_output ∷ []) standard_output _ c.in_err-explain-in-Explain.ensures.named
     (first-among standard_output [])) passed.ensures.1)
+
+pub returns-in_err-test-in-Test-clause-leads : goal.returns-in_err-test-in-Test-clause-leads
+returns-in_err-test-in-Test-clause-leads g c =
+    let passed = c.from_residual-in_err-test-in-Test in
+    subst (λ (r : ToolRequest). RequestOutcome r (g.O.Opener.file_at c.args.files.now) (g.I.Source.left c.args.input.now)
+    (g.W.Sink.written c.args.output.now) (g.W.Sink.written c.test.new.output) (plain_result passed.result))
+    c.in-Test.ensures (
+      plain_result c.test.result,
+      c.test.ensures.leads,
+      found-fault c.test.result _ passed.result c.in_err-test-in-Test.was passed.ensures.1,
+    )
+
+pub returns-in_ok-test-in-Test-clause-leads : goal.returns-in_ok-test-in-Test-clause-leads
+returns-in_ok-test-in-Test-clause-leads g c =
+    let it = report.Found c.in_ok-test-in-Test.field-0 in
+    subst (λ (r : ToolRequest). RequestOutcome r (g.O.Opener.file_at c.args.files.now) (g.I.Source.left c.args.input.now)
+    (g.W.Sink.written c.args.output.now) (g.W.Sink.written c.test.new.output) (Ok it)) c.in-Test.ensures (
+      plain_result c.test.result,
+      c.test.ensures.leads,
+      found-findings c.test.result _ c.in_ok-test-in-Test.was,
+    )
+
+pub returns-in_err-test-in-Test-clause-named : goal.returns-in_err-test-in-Test-clause-named
+returns-in_err-test-in-Test-clause-named g c =
+    let passed = c.from_residual-in_err-test-in-Test in
+    subst (λ (r : ToolRequest). IfErr passed.result (IsFaultAmong (stream_names r))) c.in-Test.ensures
+    (passed-among (standard_output ∷ []) _ passed.result
+    (at-among _ (standard_output ∷ []) standard_output _ c.in_err-test-in-Test.ensures.named
+    (first-among standard_output [])) passed.ensures.1)

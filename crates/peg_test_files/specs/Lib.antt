@@ -1,0 +1,14 @@
+pub use Rattle.peg_explain_files.specs.Entries
+pub use Rattle.peg_explain_files.specs.Explained
+pub use Rattle.peg_explain_files.specs.Printings
+pub use Rattle.peg_io.specs.NamedFile
+pub use Rattle.peg_semantics.specs.Rules
+pub use Rattle.peg_semantics.specs.Starts
+pub mod FolderTexts
+pub mod TestCounts
+pub mod TestNames
+pub mod TestQuestions
+pub mod TestResults
+pub mod Tested
+pub mod Testers
+pub mod Trials
