@@ -1,8 +1,8 @@
 #!/usr/bin/env python3
 """Fails each allocation of tests in Rattle in turn, for calls that no run of the program or of the C library makes. The
-tests are those of CRATES, which `rt ci` builds into crates/CRATE/out/CRATE_tests. Each run must pass, or
-end because it is out of memory: a comparison that fails, or a crash, is a fault. The clauses that say what stays
-unchanged after a failure are listed in tests/oom/README.md."""
+tests are those of `peg_library_tests`, which `rt ci` builds. Each run must pass, or end because it is out of memory: a
+comparison that fails, or a crash, is a fault. The clauses that say what stays unchanged after a failure are listed in
+tests/oom/README.md."""
 import concurrent.futures
 import os
 import pathlib
@@ -12,14 +12,7 @@ import tempfile
 from refusing import build_library, refused_runs, run
 
 TOP = pathlib.Path(__file__).resolve().parent.parent.parent
-CRATES = ["peg_library_tests", "peg_machine_tests"]
-# Of `peg_machine_tests` the one that calls `plain_total`: the others compare what a memo could store.
-OF_MACHINE = {"grammars::worked_texts_have_one_outcome"}
-# These compare an error, in whose place memory is reported.
-OF_ERRORS = {
-    "names::names_with_a_mark_are_refused",
-    "refusals::names_of_rules_and_defaults_are_given",
-}
+PROGRAM = TOP / "crates/peg_library_tests/out/peg_library_tests_tests"
 MOST = 5_000  # allocations of a test
 STOPPED = b"test stopped at"
 
@@ -44,23 +37,23 @@ def judge(program: str, test: str, library: str, met: str) -> tuple[int, list[st
 
 
 def main() -> int:
+    program = str(PROGRAM)
+    if not PROGRAM.exists():
+        print(f"{PROGRAM.name}: not built; `rt ci` builds it")
+        return 1
+    tests = tests_of(program)
     with tempfile.TemporaryDirectory() as folder:
         library = build_library(folder)
-        programs = {crate: str(TOP / "crates" / crate / "out" / f"{crate}_tests") for crate in CRATES}
-        missing = [crate for crate, program in programs.items() if not os.path.exists(program)]
-        for crate in missing:
-            print(f"{crate}: not built; `rt ci` builds it")
-        pairs = [(program, test) for crate, program in programs.items() if crate not in missing
-                 for test in tests_of(program)
-                 if (test in OF_MACHINE if crate == "peg_machine_tests" else test not in OF_ERRORS)]
         with concurrent.futures.ThreadPoolExecutor(os.cpu_count()) as pool:
-            results = list(pool.map(lambda at: judge(*pairs[at], library, f"{folder}/met-{at}"), range(len(pairs))))
-    faults = len(missing)
-    for (_, test), (count, wrong) in zip(pairs, results):
+            results = list(pool.map(lambda at: judge(program, tests[at], library, f"{folder}/met-{at}"),
+                                    range(len(tests))))
+    faults = 0
+    for test, (count, wrong) in zip(tests, results):
         print("\n".join([f"{test}: {count} allocations", *wrong]))
         faults += len(wrong)
-    print(f"failed allocations of tests: {len(pairs)} tests, {sum(count for count, _ in results)} allocations, {faults} faults")
-    return 1 if faults or not pairs else 0
+    allocations = sum(count for count, _ in results)
+    print(f"failed allocations of tests: {len(tests)} tests, {allocations} allocations, {faults} faults")
+    return 1 if faults or not tests else 0
 
 
 if __name__ == "__main__":

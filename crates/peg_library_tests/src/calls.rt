@@ -1,36 +1,13 @@
 //! Calls that no run of the program makes. `tests/oom/each_test.py` makes each of their allocations fail.
 use peg_json::{answer_json, long_text_line, no_coverage_line};
-use peg_machine::{ListWatch, run_packrat};
-use peg_memo::LruMemo;
 use peg_parser::{ParseOptions, Parser, read_by_figure};
 use std::alloc::Global;
 use std::test::Fail;
-
-// Two alternatives begin alike, so a parse without a memo calls the inner rule twice.
-const PREFIX: &[u8] = b"A <- '(' A ')' 'x' / '(' A ')' 'y' / 'a'\n";
 
 #[test]
 fn the_metagrammar_reads_a_file(rt: HostRuntime) -> Result<(), Fail> {
     let rules = read_by_figure(rt.alloc(), b"S <- 'a' T{2}\nT <- [b-c]*\n")?;
     assert_eq!(rt; rules.len(), 2);
-    Ok(())
-}
-
-// Each of the two calls is made once (Ford 2002, section 3.1).
-#[test]
-fn a_packrat_run_makes_no_call_twice(rt: HostRuntime) -> Result<(), Fail> {
-    let alloc = rt.alloc();
-    let parser = Parser::from_file(alloc, PREFIX)?;
-    let program = parser.program();
-    if program.rules() == 0 {
-        return Ok(());
-    }
-    let mut memo = LruMemo::new(alloc, 10)?;
-    let mut watch = ListWatch::new(alloc);
-    let answer = run_packrat(alloc, program, b"(a)y", 0, &mut memo, &mut watch, None);
-    assert!(rt;
-        answer.is_err() || memo.was_refused() || watch.pairs() == [(0, 0), (0, 1)].as_slice()
-    );
     Ok(())
 }
 

@@ -2,18 +2,14 @@
 #![tactic(auto)]
 
 #[cfg(test)]
-mod blame;
-#[cfg(test)]
 mod calls;
 #[cfg(test)]
-mod diagnostics;
+mod evaluators;
 #[cfg(test)]
 mod messages;
 #[cfg(test)]
-mod names;
-#[cfg(test)]
-mod profile;
-#[cfg(test)]
 mod refusals;
+#[cfg(test)]
+mod runs;
 #[cfg(test)]
 mod values;

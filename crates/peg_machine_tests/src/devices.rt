@@ -1,9 +1,8 @@
 //! Devices that pass bytes on, that signals interrupt, and that fail in mid-stream.
-use peg_io::{Device, DeviceFault, ReadFault, Sink, Source, read_up_to, write_all_bytes};
+use peg_io::{Device, DeviceFault, ReadFault, Source, read_up_to, write_all_bytes};
 use std::alloc::Global;
 use std::io;
 use std::io::{ErrorKind, Read, Write};
-use std::test::Fail;
 
 // A device that passes on one byte a call, after each `signals` calls that signals interrupt. After `left` bytes reads
 // fail, and writes accept no byte.
@@ -76,25 +75,35 @@ impl Write for Slow {
     }
 }
 
+// Reads five bytes. Returns the fault, and whether the source has failed.
+fn read_five(alloc: Global, signals: u32, left: u32) -> (Option<ReadFault>, bool) {
+    let mut source = Device::new(Slow::new(alloc, signals, left));
+    let fault = read_up_to(alloc, &mut source, 5).err();
+    (fault, Source::failed(&source))
+}
+
 // A signal's interruption is repeated, but not without an end.
 #[test]
-fn a_read_fails_in_mid_stream_or_is_repeated(rt: HostRuntime) -> Result<(), Fail> {
+fn a_read_fails_in_mid_stream_or_is_repeated(rt: HostRuntime) {
     for (signals, left, wanted) in [
         (1000, 5, None),
         (0, 3, Some(ReadFault::Device)),
         (u32::MAX, 5, Some(ReadFault::Device)),
     ] {
-        let mut source = Device::new(Slow::new(rt.alloc(), signals, left));
-        let fault = read_up_to(rt.alloc(), &mut source, 5).err();
+        let (fault, failed) = read_five(rt.alloc(), signals, left);
         assert_eq!(rt; fault, wanted, "of {signals} signals");
-        assert_eq!(rt; Source::failed(&source), wanted.is_some());
+        assert_eq!(rt; failed, wanted.is_some());
     }
-    Ok(())
+}
+
+// Writes three bytes.
+fn write_abc(writer: &mut Slow) -> Result<(), DeviceFault> {
+    write_all_bytes(&mut Device::new(writer), b"abc")
 }
 
 // A write that fails leaves a prefix. A write that accepts no byte has failed.
 #[test]
-fn a_write_fails_in_mid_stream_or_is_repeated(rt: HostRuntime) -> Result<(), Fail> {
+fn a_write_fails_in_mid_stream_or_is_repeated(rt: HostRuntime) {
     let cases: [(u32, u32, Result<(), DeviceFault>, &[u8]); 3] = [
         (1000, 5, Ok(()), b"abc"),
         (0, 2, Err(DeviceFault), b"ab"),
@@ -102,9 +111,7 @@ fn a_write_fails_in_mid_stream_or_is_repeated(rt: HostRuntime) -> Result<(), Fai
     ];
     for (signals, left, wanted, taken) in cases {
         let mut writer = Slow::new(rt.alloc(), signals, left);
-        let mut sink = Device::new(&mut writer);
-        assert_eq!(rt; write_all_bytes(&mut sink, b"abc"), wanted);
+        assert_eq!(rt; write_abc(&mut writer), wanted);
         assert_eq!(rt; writer.taken.as_slice(), taken);
     }
-    Ok(())
 }

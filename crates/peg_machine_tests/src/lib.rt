@@ -1,9 +1,7 @@
-//! Tests of what no run of the program shows: the tokens and core forms of a file, shortcuts, memos, devices, runs with
-//! other memos, and the reference evaluator. The expected values were worked out by hand.
+//! Tests of what no run of the program shows: tokens and definitions with their spans, definitions that no file has,
+//! the tables of shortcuts, memos, the costs of rules, and devices. The expected values were worked out by hand.
 #![tactic(auto)]
 
-#[cfg(test)]
-mod core_forms;
 #[cfg(test)]
 mod devices;
 #[cfg(test)]
@@ -13,10 +11,8 @@ mod grammars;
 #[cfg(test)]
 mod notation;
 #[cfg(test)]
-mod pairs;
-#[cfg(test)]
 mod policy;
 #[cfg(test)]
-mod refusing;
+mod programs;
 #[cfg(test)]
 mod shortcuts;

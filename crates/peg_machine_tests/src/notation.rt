@@ -89,42 +89,54 @@ fn bodies_are_read(rt: HostRuntime) -> Result<(), Fail> {
     Ok(())
 }
 
+// The texts of the faults.
+const FAULTS: [(NotationFault, &str); 5] = [
+    (NotationFault::FileTooLong, "the grammar file is too long"),
+    (
+        NotationFault::Syntax { at: 7 },
+        "the grammar file isn't in the notation, at byte 7",
+    ),
+    (
+        NotationFault::TooNested { at: 0 },
+        "too many parentheses are open at byte 0 of the grammar file",
+    ),
+    (
+        NotationFault::BadCount { at: 8 },
+        "the count at byte 8 of the grammar file is out of range",
+    ),
+    (NotationFault::Memory, "out of memory"),
+];
+
+const LEX_FAULTS: [(LexFault, &str); 3] = [
+    (LexFault::FileTooLong, "the grammar file is too long"),
+    (
+        LexFault::Syntax { at: 7 },
+        "no token begins at byte 7 of the grammar file",
+    ),
+    (LexFault::Memory, "out of memory"),
+];
+
 #[test]
-fn faults_and_bounds_are_worked(rt: HostRuntime) -> Result<(), Fail> {
-    let texts = [
-        (NotationFault::FileTooLong, "the grammar file is too long"),
-        (
-            NotationFault::Syntax { at: 7 },
-            "the grammar file isn't in the notation, at byte 7",
-        ),
-        (
-            NotationFault::TooNested { at: 0 },
-            "too many parentheses are open at byte 0 of the grammar file",
-        ),
-        (
-            NotationFault::BadCount { at: 8 },
-            "the count at byte 8 of the grammar file is out of range",
-        ),
-        (NotationFault::Memory, "out of memory"),
-    ];
-    for (fault, wanted) in texts {
+fn each_fault_has_a_text(rt: HostRuntime) -> Result<(), Fail> {
+    for (fault, wanted) in FAULTS {
         let found = format!(in rt.alloc(); "{fault}")?;
         assert_eq!(rt; found.as_str(), wanted);
     }
-    let texts = [
-        (LexFault::FileTooLong, "the grammar file is too long"),
-        (
-            LexFault::Syntax { at: 7 },
-            "no token begins at byte 7 of the grammar file",
-        ),
-        (LexFault::Memory, "out of memory"),
-    ];
-    for (fault, wanted) in texts {
+    Ok(())
+}
+
+#[test]
+fn each_lexing_fault_has_a_text(rt: HostRuntime) -> Result<(), Fail> {
+    for (fault, wanted) in LEX_FAULTS {
         let found = format!(in rt.alloc(); "{fault}")?;
         assert_eq!(rt; found.as_str(), wanted);
     }
+    Ok(())
+}
+
+#[test]
+fn a_count_has_bounds_if_it_is_in_range(rt: HostRuntime) {
     let (min, max) = (7, 10);
     assert_eq!(rt; count_bounds(b"{0007,010} # c"), Some(Bounds { min, max }));
     assert_eq!(rt; count_bounds(b"{4,2}"), None);
-    Ok(())
 }

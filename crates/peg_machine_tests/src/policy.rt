@@ -1,14 +1,10 @@
-//! The costs of rules and the entries of a selective store, worked out by hand from the code; and runs over one.
-ghost use Rattle.std.specs.Prelude.{◌<◌, length, IfOk, OnOk};
+//! The costs of rules and the entries of a selective store, worked out by hand from the code.
+ghost use Rattle.std.specs.Prelude.{IfOk, OnOk};
 ghost use Rattle.peg_memo_policy.specs.SelectiveStore.{state_by};
 ghost use Rattle.peg_nodes.specs.OpenNodes.{IsOpenAt};
 
-use crate::pairs::{assert_alike, program_of, run_with};
+use crate::programs::program_of;
 use peg_bytes::Span;
-use peg_code::Program;
-use peg_fixtures::grammars::TWICE;
-use peg_fixtures::{nest, node};
-use peg_machine::{Answer, NoWatch, RunFault, run_in_store};
 use peg_memo::{NodeStore, Recalled};
 use peg_memo_policy::{RerunCosts, SelectiveStore};
 use peg_tree::TreeNode;
@@ -144,136 +140,22 @@ fn matches(store: &mut SelectiveStore<'_>, end: u32, has_four: bool) -> Result<b
     Ok(store.finish(at, 1, 0, end))
 }
 
-// Calls a rule that fails at a number of positions. Returns how many of the results are stored.
-fn kept_failures(
-    store: &mut SelectiveStore<'_>,
-    rule: u32,
-    places: u32,
-) -> Result<u32, AllocError> {
-    let mut kept: u32 = 0;
-    for position in 0..places {
-        if fails(store, rule, position)? {
-            kept = kept.saturating_add(1);
-        }
-    }
-    Ok(kept)
+// Offers the store what it declines: the result of the start, of a trivial rule and of an unknown rule, and five nodes,
+// which don't pay for the work of a number. Returns whether it stores any of them.
+fn stores_any(store: &mut SelectiveStore<'_>) -> Result<bool, AllocError> {
+    let kept = fails(store, 3, 0)? || fails(store, 4, 0)? || store.fail(0, 1);
+    Ok(kept || begins(store, 1, 0)? && matches(store, 10, true)?)
 }
 
-// The result of the start, a trivial rule and an unknown rule are declined. Five nodes don't pay for the work of a number.
-// A hit appends the nodes that were stored, and a store of one entry has the last one.
+// A store of one entry has the last one.
 #[test]
 fn a_selective_memo_stores_what_pays(rt: HostRuntime) -> Result<(), Fail> {
     let costs = costs_of(rt.alloc(), FILE)?;
     let mut store = SelectiveStore::new(rt.alloc(), 1, &costs, b"1 2 3 4 5 ")?;
-    assert!(rt; !fails(&mut store, 3, 0)? && !fails(&mut store, 4, 0)?);
-    assert!(rt; begins(&mut store, 3, 0)? && begins(&mut store, 4, 0)?);
-    assert!(rt; fails(&mut store, 1, 1)? && !store.fail(0, 1));
+    assert!(rt; !stores_any(&mut store)? && fails(&mut store, 1, 1)?);
     assert_eq!(rt; call(&mut store, 1, 1)?, Recalled::Failed);
-    assert!(rt; begins(&mut store, 1, 0)? && !matches(&mut store, 10, true)?);
     assert!(rt; begins(&mut store, 1, 0)? && matches(&mut store, 8, false)?);
     assert_eq!(rt; call(&mut store, 1, 0)?, Recalled::Matched { end: 8 });
-    assert!(rt; begins(&mut store, 1, 1)? && store.len() == 13);
-    let leaf = |position: u32| node(2, position, position, 1);
-    let nodes = store.take_nodes()?;
-    let wanted = [
-        node(1, 0, 10, 5),
-        leaf(0),
-        leaf(2),
-        leaf(4),
-        leaf(6),
-        node(1, 0, 8, 4),
-        leaf(0),
-        leaf(2),
-        leaf(4),
-        node(1, 0, 8, 4),
-        leaf(0),
-        leaf(2),
-        leaf(4),
-    ];
-    assert_eq!(rt; nodes.as_slice(), wanted.as_slice());
-    Ok(())
-}
-
-// A rule starts with a balance of 4352. Each failure stored costs it 8, and under 256 it is in debt. Then one failure
-// in 128 is stored, if it comes soon. Over digits it comes late.
-#[test]
-fn a_rule_in_debt_stores_a_sample(rt: HostRuntime) -> Result<(), Fail> {
-    let costs = costs_of(rt.alloc(), FILE)?;
-    let digits = [b'7'; 1000];
-    let cases: [(&[u8], u32, u32); 4] = [
-        (b"", 513, 513),
-        (b"", 513 + 127, 513),
-        (b"", 513 + 384, 516),
-        (&digits, 1000, 1000),
-    ];
-    for (text, places, kept) in cases {
-        let mut store = SelectiveStore::new(rt.alloc(), 16, &costs, text)?;
-        assert_eq!(rt; kept_failures(&mut store, 1, places)?, kept);
-    }
-    Ok(())
-}
-
-// Each result is found twice after it was stored, so no more were stored than found, and all are stored.
-#[test]
-fn a_rule_whose_results_are_found_is_in_no_debt(rt: HostRuntime) -> Result<(), Fail> {
-    let costs = costs_of(rt.alloc(), FILE)?;
-    let mut store = SelectiveStore::new(rt.alloc(), 16, &costs, b"")?;
-    let mut found: u32 = 0;
-    for position in 0..1000 {
-        if fails(&mut store, 1, position)?
-            && !begins(&mut store, 1, position)?
-            && !begins(&mut store, 1, position)?
-        {
-            found = found.saturating_add(1);
-        }
-    }
-    assert_eq!(rt; found, 1000);
-    Ok(())
-}
-
-// Runs from the first rule over a selective store.
-fn run_selective(
-    alloc: Global,
-    program: &Program,
-    costs: &RerunCosts,
-    text: &[u8],
-    capacity: u32,
-) -> Result<Answer, RunFault>
-    requires { 0 < length program.now.core.bodies }
-{
-    let mut store = SelectiveStore::new(alloc, capacity.max(1), costs, text)?;
-    run_in_store(
-        alloc,
-        program,
-        text,
-        0,
-        None,
-        &mut store,
-        &mut NoWatch,
-        None,
-    )
-}
-
-// Without a memo each level doubles the steps. Linked results give the outcome of copied ones, also where entries are
-// evicted, and where the text doesn't match.
-#[test]
-fn linked_results_give_the_outcome_of_copied_ones(rt: HostRuntime) -> Result<(), Fail> {
-    let alloc = rt.alloc();
-    let program = program_of(alloc, TWICE)?;
-    let costs = RerunCosts::new(alloc, &program)?;
-    let cases: [(usize, &str, u32); 5] = [
-        (1, ")y", 4096),
-        (40, ")x", 4096),
-        (300, ")y", 4096),
-        (300, ")y", 64),
-        (300, ")z", 4096),
-    ];
-    for (levels, closing, capacity) in cases {
-        assert!(rt; program.rules() > 0);
-        let text = nest(alloc, levels, "(", b"a", closing)?;
-        let wanted = run_with(alloc, &program, &text, 0, 4096)?;
-        let answer = run_selective(alloc, &program, &costs, &text, capacity)?;
-        assert_alike(&rt, alloc, &answer.outcome, &wanted.outcome)?;
-    }
+    assert!(rt; begins(&mut store, 1, 1)?);
     Ok(())
 }

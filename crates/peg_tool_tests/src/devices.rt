@@ -140,54 +140,131 @@ fn parse(rows: bool, no_tree: bool) -> Command<'static> {
     }
 }
 
-// Runs a command, with devices that fail after each number of bytes. The text fails at once if it must not be read.
+// A grammar file and a text.
+type Input = (&'static [u8], &'static [u8]);
+
+// The numbers of bytes after which the devices of a run fail.
+#[derive(Clone, Copy)]
+struct Breaks {
+    file: usize,
+    text: usize,
+    output: usize,
+}
+
+// Which devices of a run failed: the file, the text, and the output.
+type Failed = (bool, bool, bool);
+
+// How a run ended, and what it wrote.
+#[derive(Drop)]
+struct Ended {
+    result: Result<u8, ToolFault>,
+    failed: Failed,
+    written: Vec<u8>,
+}
+
+// Runs a command on a grammar file and a text.
+fn end_of(alloc: Global, command: &Command<'_>, (grammar, text): Input, breaks: Breaks) -> Ended {
+    let mut file = ShortReader::new(grammar, breaks.file);
+    let mut parsed = ShortReader::new(text, breaks.text);
+    let mut output = FailingWriter::new(alloc, breaks.output);
+    let result = run_tool(alloc, &mut file, &mut parsed, &mut output, command);
+    let failed = (file.failed(), parsed.failed(), output.failed());
+    let FailingWriter { taken, .. } = output;
+    Ended {
+        result,
+        failed,
+        written: taken,
+    }
+}
+
+// Runs the parse of a joined input.
+fn end_of_joined(alloc: Global, breaks: Breaks) -> Ended {
+    let mut input = ShortReader::new(INPUT, breaks.file);
+    let mut output = FailingWriter::new(alloc, breaks.output);
+    let result = run_joined(alloc, &mut input, &mut output);
+    let failed = (input.failed(), false, output.failed());
+    let FailingWriter { taken, .. } = output;
+    Ended {
+        result,
+        failed,
+        written: taken,
+    }
+}
+
+// Checks that a run ended with a failed read and wrote nothing. `at` is the number of bytes before the failure.
+fn assert_read_fault(rt: &impl Abort, ended: &Ended, failed: Failed, at: usize) {
+    assert_eq!(rt; ended.result, Err(ToolFault::ReadFault), "read at {at}");
+    assert_eq!(rt; ended.failed, failed, "read at {at}");
+    assert!(rt; ended.written.is_empty(), "read at {at}");
+}
+
+// Checks that a run wrote a part of its line, or all of it, and then ended with this status.
+fn assert_written(rt: &impl Abort, ended: &Ended, line: &[u8], status: u8, at: usize) {
+    let is_whole = at >= line.len();
+    let wanted = if is_whole {
+        Ok(status)
+    } else {
+        Err(ToolFault::WriteFault)
+    };
+    assert_eq!(rt; ended.result, wanted, "write at {at}");
+    assert_eq!(rt; ended.failed, (false, false, !is_whole), "write at {at}");
+    assert!(rt;
+        ended.written.as_slice() == &line[..at.min(line.len())],
+        "write at {at}"
+    );
+}
+
+// Runs a command with a grammar file that fails after each number of bytes, and a text that fails at once.
+fn assert_file_faults(rt: &impl Abort, alloc: Global, command: &Command<'_>, input: Input) {
+    let (text, output) = (0, NEVER);
+    for file in 0..=input.0.len() {
+        let ended = end_of(alloc, command, input, Breaks { file, text, output });
+        assert_read_fault(rt, &ended, (true, false, false), file);
+    }
+}
+
+// Runs a command with a text that fails after each number of bytes.
+fn assert_text_faults(rt: &impl Abort, alloc: Global, command: &Command<'_>, input: Input) {
+    let (file, output) = (NEVER, NEVER);
+    for text in 0..=input.1.len() {
+        let ended = end_of(alloc, command, input, Breaks { file, text, output });
+        assert_read_fault(rt, &ended, (false, true, false), text);
+    }
+}
+
+// Runs a command with an output that fails after each number of bytes, and a text that fails after `text` bytes.
+fn assert_writes(
+    rt: &impl Abort,
+    alloc: Global,
+    command: &Command<'_>,
+    (input, text): (Input, usize),
+    (line, status): (&'static [u8], u8),
+) {
+    let file = NEVER;
+    for output in 0..=line.len() {
+        let ended = end_of(alloc, command, input, Breaks { file, text, output });
+        assert_written(rt, &ended, line, status, output);
+    }
+}
+
+// Runs a command with failing devices. A text that must not be read fails at once.
 fn assert_faults(
     rt: &impl Abort,
     alloc: Global,
     command: &Command<'_>,
-    (grammar, text, is_read): (&'static [u8], &'static [u8], bool),
-    (line, status): (&'static [u8], u8),
-) -> Result<(), Fail> {
-    for at in 0..=grammar.len() {
-        let mut file = ShortReader::new(grammar, at);
-        let mut parsed = ShortReader::new(text, 0);
-        let mut output = FailingWriter::new(alloc, NEVER);
-        let ended = run_tool(alloc, &mut file, &mut parsed, &mut output, command);
-        assert_eq!(rt; ended, Err(ToolFault::ReadFault), "file at {at}");
-        assert!(rt; file.failed() && !parsed.failed() && !output.failed());
-        assert_eq!(rt; output.taken.len(), 0, "file at {at}");
+    (input, is_read): (Input, bool),
+    wanted: (&'static [u8], u8),
+) {
+    assert_file_faults(rt, alloc, command, input);
+    if is_read {
+        assert_text_faults(rt, alloc, command, input);
     }
-    for at in 0..=text.len() {
-        let mut file = ShortReader::new(grammar, NEVER);
-        let mut parsed = ShortReader::new(text, at);
-        let mut output = FailingWriter::new(alloc, NEVER);
-        if is_read {
-            let ended = run_tool(alloc, &mut file, &mut parsed, &mut output, command);
-            assert_eq!(rt; ended, Err(ToolFault::ReadFault), "text at {at}");
-            assert!(rt; parsed.failed() && !file.failed() && !output.failed());
-            assert_eq!(rt; output.taken.len(), 0, "text at {at}");
-        }
-    }
-    for at in 0..=line.len() {
-        let mut file = ShortReader::new(grammar, NEVER);
-        let mut parsed = ShortReader::new(text, if is_read { NEVER } else { 0 });
-        let mut output = FailingWriter::new(alloc, at);
-        let ended = run_tool(alloc, &mut file, &mut parsed, &mut output, command);
-        let is_whole = at == line.len();
-        let wanted = if is_whole {
-            Ok(status)
-        } else {
-            Err(ToolFault::WriteFault)
-        };
-        assert_eq!(rt; ended, wanted, "line at {at}");
-        assert!(rt; output.failed() != is_whole && !file.failed() && !parsed.failed());
-        assert!(rt; output.taken.as_slice() == &line[..at]);
-    }
-    Ok(())
+    let text = if is_read { NEVER } else { 0 };
+    assert_writes(rt, alloc, command, (input, text), wanted);
 }
 
 #[test]
-fn commands_report_a_failed_read_or_write(rt: HostRuntime) -> Result<(), Fail> {
+fn commands_report_a_failed_read_or_write(rt: HostRuntime) {
     let refusal = b"{\"at\":17,\"column\":1,\"line\":2,\"refusal\":\"Syntax\"}\n".as_slice();
     let accepted = b"{\"result\":\"accepted\",\"rules\":1}\n".as_slice();
     let cycle = b"{\"path\":[\"A\",\"B\"],\"refusal\":\"LeftRecursion\"}\n".as_slice();
@@ -195,43 +272,33 @@ fn commands_report_a_failed_read_or_write(rt: HostRuntime) -> Result<(), Fail> {
         b"{\"consumed\":3,\"expected\":[[44,49]],\"far\":3,\"result\":\"matched\"}\n".as_slice();
     let commented = b"A <- 'x' #end\n".as_slice();
     let cases = [
-        (Command::Table, (INPUT, INPUT, false), (refusal, 2)),
-        (Command::Check, (commented, TEXT, false), (accepted, 0)),
-        (parse(false, false), (CYCLE, TEXT, false), (cycle, 2)),
-        (parse(false, false), (FILE, TEXT, true), (LINE, 0)),
-        (parse(true, false), (FILE, TEXT, true), (ROWS, 0)),
-        (parse(true, false), (COUNTS, b"aabbcc", true), (COUNTED, 0)),
-        (parse(false, true), (PAIRS, b"a=1", true), (treeless, 0)),
+        (Command::Table, ((INPUT, INPUT), false), (refusal, 2)),
+        (Command::Check, ((commented, TEXT), false), (accepted, 0)),
+        (parse(false, false), ((CYCLE, TEXT), false), (cycle, 2)),
+        (parse(false, false), ((FILE, TEXT), true), (LINE, 0)),
+        (parse(true, false), ((FILE, TEXT), true), (ROWS, 0)),
+        (
+            parse(true, false),
+            ((COUNTS, b"aabbcc"), true),
+            (COUNTED, 0),
+        ),
+        (parse(false, true), ((PAIRS, b"a=1"), true), (treeless, 0)),
     ];
     for (command, input, output) in cases {
-        assert_faults(&rt, rt.alloc(), &command, input, output)?;
+        assert_faults(&rt, rt.alloc(), &command, input, output);
     }
-    Ok(())
 }
 
 #[test]
-fn a_joined_input_reports_a_failed_read_or_write(rt: HostRuntime) -> Result<(), Fail> {
-    for at in 0..=INPUT.len() {
-        let mut input = ShortReader::new(INPUT, at);
-        let mut output = FailingWriter::new(rt.alloc(), NEVER);
-        let ended = run_joined(rt.alloc(), &mut input, &mut output);
-        assert_eq!(rt; ended, Err(ToolFault::ReadFault), "input at {at}");
-        assert!(rt; input.failed() && !output.failed());
-        assert_eq!(rt; output.taken.len(), 0, "input at {at}");
+fn a_joined_input_reports_a_failed_read_or_write(rt: HostRuntime) {
+    let (text, output) = (NEVER, NEVER);
+    for file in 0..=INPUT.len() {
+        let ended = end_of_joined(rt.alloc(), Breaks { file, text, output });
+        assert_read_fault(&rt, &ended, (true, false, false), file);
     }
-    for at in 0..=LINE.len() {
-        let mut input = ShortReader::new(INPUT, NEVER);
-        let mut output = FailingWriter::new(rt.alloc(), at);
-        let ended = run_joined(rt.alloc(), &mut input, &mut output);
-        let is_whole = at == LINE.len();
-        let wanted = if is_whole {
-            Ok(0)
-        } else {
-            Err(ToolFault::WriteFault)
-        };
-        assert_eq!(rt; ended, wanted, "line at {at}");
-        assert!(rt; output.failed() != is_whole && !input.failed());
-        assert!(rt; output.taken.as_slice() == &LINE[..at]);
+    let file = NEVER;
+    for output in 0..=LINE.len() {
+        let ended = end_of_joined(rt.alloc(), Breaks { file, text, output });
+        assert_written(&rt, &ended, LINE, 0, output);
     }
-    Ok(())
 }

@@ -1,11 +1,9 @@
-//! Tests of what no run of the program can show: devices that fail in mid-stream, values that the command line can't
-//! make, and both readers of grammar files.
+//! Tests of what no run of the program can show: devices that fail in mid-stream, files and arguments that are read
+//! without memory, and the reader by the metagrammar.
 #![tactic(auto)]
 
 #[cfg(test)]
 mod devices;
-#[cfg(test)]
-mod library;
 #[cfg(test)]
 mod program;
 #[cfg(test)]

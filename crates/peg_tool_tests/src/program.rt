@@ -1,12 +1,13 @@
-//! Runs of the program for its arguments that run out of memory, and help of any bytes.
+//! Runs of the program for its arguments, whose files or input can't be read.
 ghost use Rattle.std.specs.Prelude.{◌≡◌, None, Some, true, false};
 
 use crate::devices::ShortReader;
 use peg_tool::{
-    Device, DeviceFault, OpenFault, Opener, Source, Words, read_args, run_program, run_words,
+    Device, DeviceFault, Exit, OpenFault, Opener, Source, Words, WordsFault, read_args, run_program,
 };
 use std::alloc::{AllocError, Global};
 use std::io::{Error, ErrorKind};
+use std::process::Abort;
 use std::test::Fail;
 
 // A file in memory. Reads of it don't fail.
@@ -74,6 +75,10 @@ impl Opener for Shelf {
         };
         Ok(Held { bytes })
     }
+
+    fn list(&self, _alloc: Global, _name: &str) -> Result<Vec<String>, OpenFault> {
+        Err(OpenFault::Memory)
+    }
 }
 
 // The arguments in a command line without quotes.
@@ -85,96 +90,87 @@ fn args_of(alloc: Global, text: &str) -> Result<Vec<String>, AllocError> {
     Ok(args)
 }
 
+// Runs the program over the shelf.
+fn exit_of(
+    alloc: Global,
+    words: Result<Words, WordsFault>,
+    input: &mut ShortReader,
+    output: &mut Vec<u8>,
+) -> Exit
+    requires { input.old.fault ≡ None }
+{
+    run_program(alloc, &SHELF, input, &mut Device::new(output), words)
+}
+
+// Checks how the program ends for a command line, and what it prints.
+fn assert_exit(
+    rt: &impl Abort,
+    alloc: Global,
+    (text, input): (&str, &'static [u8]),
+    (status, message, printed): (u8, &str, &str),
+) -> Result<(), AllocError> {
+    let args = args_of(alloc, text)?;
+    let words = read_args(alloc, Ok(args.into_iter()));
+    let mut output = Vec::new(alloc);
+    let exit = exit_of(
+        alloc,
+        words,
+        &mut ShortReader::new(input, input.len()),
+        &mut output,
+    );
+    assert_eq!(rt; output.as_slice(), printed.as_bytes(), "{text}");
+    assert_eq!(rt; exit.status(), status, "{text}");
+    assert_eq!(rt; exit.message(), message, "{text}");
+    Ok(())
+}
+
 // Files are opened in the order of the arguments, and the first fault is reported. The message of an earlier text is
 // written before the next text is opened.
 #[test]
 fn a_file_that_is_opened_without_memory_is_reported(rt: HostRuntime) -> Result<(), Fail> {
-    let alloc = rt.alloc();
     let file = "pegtool: file fault\nnowhere: No such file or directory\n";
     let memory = "pegtool: out of memory\n";
     let first = "bcd:1:2: expected the end, found 'c'\nbcd\n ^\n";
     let cases = [
-        ("pegtool check vast", 5, memory, ""),
-        ("pegtool lint vast --start S", 5, memory, ""),
-        ("pegtool parse line vast", 5, memory, ""),
-        ("pegtool parse vast nowhere", 5, memory, ""),
-        ("pegtool parse nowhere vast", 4, file, ""),
-        ("pegtool profile line --coverage bcd vast", 5, memory, ""),
-        ("pegtool explain vast bcd", 5, memory, ""),
-        ("pegtool explain line bcd vast", 5, memory, first),
-        ("pegtool explain line vast bcd", 5, memory, ""),
+        ("pegtool check vast", (5, memory, "")),
+        ("pegtool lint vast --start S", (5, memory, "")),
+        ("pegtool parse line vast", (5, memory, "")),
+        ("pegtool parse vast nowhere", (5, memory, "")),
+        ("pegtool parse nowhere vast", (4, file, "")),
+        ("pegtool profile line --coverage bcd vast", (5, memory, "")),
+        ("pegtool explain vast bcd", (5, memory, "")),
+        ("pegtool explain line bcd vast", (5, memory, first)),
+        ("pegtool explain line vast bcd", (5, memory, "")),
     ];
-    for (text, status, message, printed) in cases {
-        let args = args_of(alloc, text)?;
-        let mut output = Vec::new(alloc);
-        let exit = run_program(
-            alloc,
-            &SHELF,
-            &mut Device::new(b"".as_slice()),
-            &mut Device::new(&mut output),
-            read_args(alloc, Ok(args.into_iter())),
-        );
-        assert_eq!(rt; output.as_slice(), printed.as_bytes(), "{text}");
-        assert_eq!(rt; exit.status(), status, "{text}");
-        assert_eq!(rt; exit.message(), message, "{text}");
+    for (text, wanted) in cases {
+        assert_exit(&rt, rt.alloc(), (text, b""), wanted)?;
     }
     Ok(())
 }
 
-// The read of the list fails after the line end of the first name and two bytes of the second one. So one text is
-// explained, and the list is reported.
+// The list fails after the line end of the first name and two bytes of the second one. So one text is explained, and
+// the list is reported.
 #[test]
 fn names_that_end_before_a_failed_read_are_explained(rt: HostRuntime) -> Result<(), Fail> {
-    let alloc = rt.alloc();
-    let args = args_of(alloc, "pegtool explain line --files-from -")?;
-    let mut output = Vec::new(alloc);
-    let exit = run_program(
-        alloc,
-        &SHELF,
-        &mut ShortReader::new(b"bcd\nbcd\n", 6),
-        &mut Device::new(&mut output),
-        read_args(alloc, Ok(args.into_iter())),
-    );
-    assert_eq!(rt;
-        output.as_slice(),
-        b"bcd:1:2: expected the end, found 'c'\nbcd\n ^\n".as_slice()
-    );
-    assert_eq!(rt; exit.status(), 4);
-    assert_eq!(rt; exit.message(), "pegtool: -: can't be read\n");
-    Ok(())
+    let line = ("pegtool explain line --files-from -", b"bcd\nbc".as_slice());
+    let printed = "bcd:1:2: expected the end, found 'c'\nbcd\n ^\n";
+    let wanted = (4, "pegtool: -: can't be read\n", printed);
+    Ok(assert_exit(&rt, rt.alloc(), line, wanted)?)
 }
 
 #[test]
 fn arguments_that_are_read_without_memory_are_reported(rt: HostRuntime) {
-    let alloc = rt.alloc();
-    let mut output = Vec::new(alloc);
-    let exit = run_program(
-        alloc,
-        &SHELF,
-        &mut Device::new(b"".as_slice()),
-        &mut Device::new(&mut output),
-        read_args(alloc, Err(Error::from(ErrorKind::OutOfMemory))),
+    let words = read_args(rt.alloc(), Err(Error::from(ErrorKind::OutOfMemory)));
+    let mut output = Vec::new(rt.alloc());
+    let exit = exit_of(
+        rt.alloc(),
+        words,
+        &mut ShortReader::new(b"", 0),
+        &mut output,
     );
     assert!(rt; output.is_empty());
-    assert_eq!(rt; exit.status(), 5);
-    assert_eq!(rt; exit.message(), "pegtool: out of memory\n");
-}
-
-#[test]
-fn help_is_written_as_it_is(rt: HostRuntime) -> Result<(), Fail> {
-    let alloc = rt.alloc();
-    for help in ["How to call it\n", "", "\n"] {
-        let text = String::from_str(alloc, help)?;
-        let mut output = Vec::new(alloc);
-        let ended = run_words(
-            alloc,
-            &SHELF,
-            &mut Device::new(b"".as_slice()),
-            &mut Device::new(&mut output),
-            &Words::Help { text },
-        );
-        assert!(rt; output.as_slice() == help.as_bytes(), "{help}");
-        assert_eq!(rt; ended, Ok(0));
-    }
-    Ok(())
+    assert_eq!(rt;
+        (exit.status(), exit.message()),
+        (5, "pegtool: out of memory\n")
+    );
 }

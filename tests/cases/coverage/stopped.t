@@ -68,3 +68,13 @@ A text that can't be opened or is too long ends the run, also after a stopped on
   $ pegtool profile g --coverage b /dev/zero --memo 0 --steps 8
   {"refusal":"TextTooLong"}
   [6]
+
+Of two texts at fault the first one is reported, whatever its fault.
+
+  $ pegtool profile g --coverage nowhere /dev/zero
+  pegtool: file fault
+  nowhere: No such file or directory
+  [4]
+  $ pegtool profile g --coverage /dev/zero nowhere
+  {"refusal":"TextTooLong"}
+  [6]

@@ -99,7 +99,7 @@ A terminal that fails where the match ends is expected beside the end.
 
   $ echo "A <- 'a'+" > plus.peg
   $ pegtool explain plus.peg ab.txt
-  ab.txt:1:2: expected 'a' or the end, found 'b'
+  ab.txt:1:2: expected the end or 'a', found 'b'
   ab
    ^
   [1]
