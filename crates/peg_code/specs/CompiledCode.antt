@@ -1,6 +1,6 @@
 -- Describes code: instructions and programs encoded as data, which the views of types in code need.
-use Rattle.std.specs.Prelude.{◌≡◌, ℕ, zero, suc, List, [], refl}
-use Rattle.std.specs.Coded.{Coded, code_by, coded×, coded_ℕ, coded_bool, coded_list}
+use Rattle.std.specs.Prelude.{◌≡◌, ℕ, zero, suc, Bool, List, [], Option, refl}
+use Rattle.std.specs.Coded.{Coded, code_by, coded×, coded_ℕ, coded_bool, coded_list, coded_option}
 use Rattle.peg_bytes.specs.ByteSet.{Bytes}
 use Rattle.peg_core.specs.CoreCode.{desugared_code}
 use Rattle.peg_core.specs.Layout.{Desugared}
@@ -45,6 +45,8 @@ instruction_code =
 
 abbrev pub compiled_code : Coded Compiled
 compiled_code =
-    code_by (Desugared × (List Instruction × List ℕ))
-    (coded× desugared_code (coded× (coded_list instruction_code) (coded_list coded_ℕ)))
-    (λ p. (p.core, (p.code, p.entries))) (λ p. record { core = p.0; code = p.1.0; entries = p.1.1 }) (λ _. refl)
+    code_by (Desugared × (List Instruction × (List ℕ × Option (List Bool))))
+    (coded× desugared_code (coded× (coded_list instruction_code)
+    (coded× (coded_list coded_ℕ) (coded_option (coded_list coded_bool)))))
+    (λ p. (p.core, (p.code, (p.entries, p.shown))))
+    (λ p. record { core = p.0; code = p.1.0; entries = p.1.1.0; shown = p.1.1.1 }) (λ _. refl)

@@ -17,6 +17,7 @@ pub mod Instrs
 pub mod InstrRefs
 pub mod Sizes
 pub mod Programs
+pub mod ShownRules
 pub mod Slots
 pub mod Tasks
 pub mod WrittenSizes

@@ -8,7 +8,12 @@ use Rattle.peg_code.specs.declared.program.Program.TheInside.{Inside}
 
 abbrev pub program_of : Inside → Compiled
 program_of program =
-    record { core = program.checked.core; code = program.code; entries = program.entries.items }
+    record {
+      core = program.checked.core;
+      code = program.code;
+      entries = program.entries.items;
+      shown = program.shown;
+    }
 
 -- the code is the code of the core forms, and within the limit
 pub record IsProgram (program : Inside) : Type 0 where

@@ -5,24 +5,28 @@ ghost use Rattle.peg_semantics.specs.Grammar.{max_parts};
 ghost use Rattle.peg_core.specs.Layout.{bodies_of};
 ghost use Rattle.peg_check.specs.Verdicts.{AreWellFormedIn};
 ghost use Rattle.peg_code.specs.Code.{entries_of, program_code};
-ghost use Rattle.peg_code.specs.Compiled.{compiled_of, max_instructions};
+ghost use Rattle.peg_code.specs.Compiled.{compiled_of, max_instructions, showing};
 ghost use Rattle.peg_code.specs.Instrs.{instruction_of};
 ghost use Rattle.peg_code.specs.Instructions.{TestFits};
 ghost use Rattle.peg_code.specs.InstrRefs.{instruction_of_op};
+ghost use Rattle.peg_code.specs.ShownRules.{is_shown_by};
 
 use crate::packed_code::PackedCode;
 use crate::{Instr, InstrRef};
 use peg_bytes::Span;
 use peg_check::Checked;
 use peg_core::Core;
+use peg_tree::RuleSet;
 use std::marker::Model;
 
-/// The code of a well-formed grammar, and the core forms that it was compiled from.
+/// The code of a well-formed grammar, the core forms that it was compiled from, and the rules that it shows: matches of
+/// these have nodes in a tree.
 #[derive(Debug, Drop)]
 pub struct Program {
     code: PackedCode,
     entries: Vec<u32>,
     checked: Checked,
+    shown: Option<RuleSet>,
 }
 
 impl Model for Program {
@@ -53,14 +57,35 @@ impl Program {
             code,
             entries,
             checked,
+            shown: None,
+        }
+    }
+
+    /// Returns the program with a set of rules to show. Its runs make no nodes of other rules: the children of such a
+    /// node take its place. The root is always shown. A rule beyond the set's size isn't in it.
+    pub fn showing(mut self, rules: RuleSet) -> Program
+        ensures { result ≡ showing (Some rules) self }
+    {
+        self.shown = Some(rules);
+        self
+    }
+
+    /// Returns whether matches of a rule have nodes. Takes constant time.
+    #[inline(always)]
+    pub fn shows(&self, rule: u32) -> bool
+        ensures { result ≡ is_shown_by self.now.shown rule }
+    {
+        match &self.shown {
+            None => true,
+            Some(rules) => rules.contains(rule),
         }
     }
 
     /// Returns the core forms that the program was compiled from. They are well-formed, and the program is the code
-    /// that the definition `compiled_of` gives them. Takes constant time.
+    /// that the definition `compiled_of` gives them, whatever rules it shows. Takes constant time.
     pub fn core(&self) -> &Core
         ensures core { result.now ≡ self.now.core }
-        ensures layout { self.now ≡ compiled_of self.now.core }
+        ensures layout { self.now ≡ showing self.now.shown (compiled_of self.now.core) }
         ensures well_formed { ∥ AreWellFormedIn (length self.now.core.forms) self.now.core ∥₁ }
     {
         self.checked.core()

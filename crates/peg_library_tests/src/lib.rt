@@ -12,4 +12,6 @@ mod refusals;
 #[cfg(test)]
 mod runs;
 #[cfg(test)]
+mod shown_rules;
+#[cfg(test)]
 mod values;

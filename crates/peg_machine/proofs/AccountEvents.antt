@@ -120,11 +120,11 @@ module _ (context : RunContext) (start : RuleCall) (answer : Record) (tests : Li
   -- nodes closed with their children are the list with the node closed in place
   closed_rows : (rows : List Row) (position : ℕ) (counted : CallCounting) (to_come : Effects)
       (return_pc : CallHasReturned (counting counted context) start answer tests traced to_come position rows active caller below)
-      → rows_after_match active.frame.before active.frame.pair position return_pc.children
-      ≡ close_row (length active.frame.before) rows active.frame.pair position
+      → rows_after_match context.shown active.frame.before active.frame.pair position return_pc.children
+      ≡ close_row context.shown (length active.frame.before) rows active.frame.pair position
   closed_rows rows position counted to_come return_pc =
-      sym (close_row-closes active.frame.before active.frame.pair position return_pc.children)
-      ∙ ap (λ (rows : List Row). close_row (length active.frame.before) rows active.frame.pair position) return_pc.nodes_after
+      sym (close_row-closes context.shown active.frame.before active.frame.pair position return_pc.children)
+      ∙ ap (λ (rows : List Row). close_row context.shown (length active.frame.before) rows active.frame.pair position) return_pc.nodes_after
 
   pub returns_in_both : (pc position : ℕ) (rows : List Row)
       → Account context start answer tests traced steps saved (RunsAt pc position rows) (active ∷ caller ∷ below)
@@ -142,7 +142,7 @@ module _ (context : RunContext) (start : RuleCall) (answer : Record) (tests : Li
         may_be_stored = record { recorded = own.may_be_stored.recorded; noted = own.may_be_stored.noted };
         account = does_for_both context start answer tests traced steps saved (RunsAt pc position rows) (active ∷ caller ∷ below) account
             (only_steps 1) refl tests
-            (RunsAt active.frame.return_pc position (close_row (length active.frame.before) rows active.frame.pair position))
+            (RunsAt active.frame.return_pc position (close_row context.shown (length active.frame.before) rows active.frame.pair position))
             (caller ∷ below)
             (λ counted to_come partial_run.
             let return_pc = returns_on (counting counted context) start answer tests traced to_come pc position rows active caller below

@@ -25,12 +25,14 @@ mod PackratLemmas
 mod PackratRuns
 mod PartialRunLemmas
 mod RecordRuns
+mod RootRows
 mod RoundLemmas
 mod RowClosing
 mod RunEnds
 mod RunLemmas
 mod RunRules
 mod ShortcutLemmas
+mod ShownLemmas
 mod Stacks
 mod StartLemmas
 mod StateEnds

@@ -2,10 +2,11 @@
 use Rattle.std.proofs.Common.{ℕ, zero, suc, ◌+◌, List, [], ◌∷◌, ◌++◌, Option, None, Some, slice_get, drop, zero-add}
 use Rattle.std.proofs.Common.{suc-add}
 use Rattle.peg_bytes.specs.ByteSet.{has}
-use Rattle.peg_tree.specs.Rows.{Row, rows_of}
+use Rattle.peg_tree.specs.Rows.{Row}
 use Rattle.peg_semantics.specs.Record.{Recognition, Failed, Matched, Record, byte_at}
 use Rattle.peg_semantics.proofs.RecordLemmas.{Extends, Extends-refl, Extends-none, Extends-map, Extends-and_then}
 use Rattle.peg_code.specs.Instructions.{Instruction, Test, Call, Ret, Choice, Commit, FailTwice, End}
+use Rattle.peg_machine.specs.ShownRows.{shown_rows}
 use Rattle.peg_machine.specs.Local.{BodyContext, SavedChoice, saved_choice, Effects, only_steps, effects_of, then_effects, BodyResult, body_result, BodyFailed}
 use Rattle.peg_machine.specs.Local.{Returned, with_effects, Continuation, backtrack, continue_after, after_answer, step_of, run_local}
 
@@ -22,14 +23,14 @@ module _ (body_context : BodyContext) (next more : Continuation)
   Extends-backtrack (choice_point ∷ choice_points) = h choice_point.pc choice_point.position choice_point.rows choice_points
 
   Extends-continue_after : (result : Recognition) (pc : ℕ) (rows : List Row) (choice_points : List SavedChoice)
-      → Extends (continue_after next result pc rows choice_points) (continue_after more result pc rows choice_points)
+      → Extends (continue_after body_context.shown next result pc rows choice_points) (continue_after body_context.shown more result pc rows choice_points)
   Extends-continue_after Failed pc rows choice_points = Extends-backtrack choice_points
-  Extends-continue_after (Matched end trees) pc rows choice_points = h pc end (rows ++ rows_of trees) choice_points
+  Extends-continue_after (Matched end trees) pc rows choice_points = h pc end (rows ++ shown_rows body_context.shown trees) choice_points
 
   Extends-after_answer : (r : Record) (steps pc : ℕ) (rows : List Row) (choice_points : List SavedChoice)
-      → Extends (after_answer r steps next pc rows choice_points) (after_answer r steps more pc rows choice_points)
+      → Extends (after_answer body_context.shown r steps next pc rows choice_points) (after_answer body_context.shown r steps more pc rows choice_points)
   Extends-after_answer r steps pc rows choice_points =
-      Extends-with_effects (effects_of r steps) (continue_after next r.result pc rows choice_points) (continue_after more r.result pc rows choice_points)
+      Extends-with_effects (effects_of r steps) (continue_after body_context.shown next r.result pc rows choice_points) (continue_after body_context.shown more r.result pc rows choice_points)
       (Extends-continue_after r.result pc rows choice_points)
 
   Extends-step_of : (instruction : Option Instruction) (pc position : ℕ) (rows : List Row) (choice_points : List SavedChoice)
@@ -39,8 +40,8 @@ module _ (body_context : BodyContext) (next more : Continuation)
       Extends-after_answer (byte_at (has set) terminal position (drop position body_context.text)) 1 (pc + 1) rows choice_points
   Extends-step_of (Some (Call rule)) pc position rows choice_points =
       Extends-and_then
-      (λ (r : Record). after_answer r (body_context.costs rule position) next (pc + 1) rows choice_points)
-      (λ (r : Record). after_answer r (body_context.costs rule position) more (pc + 1) rows choice_points)
+      (λ (r : Record). after_answer body_context.shown r (body_context.costs rule position) next (pc + 1) rows choice_points)
+      (λ (r : Record). after_answer body_context.shown r (body_context.costs rule position) more (pc + 1) rows choice_points)
       (body_context.calls rule position) (body_context.calls rule position)
       (λ r. Extends-after_answer r (body_context.costs rule position) (pc + 1) rows choice_points)
       (Extends-refl (body_context.calls rule position))

@@ -3,11 +3,12 @@
 use Rattle.std.proofs.Common.{◌≡◌, ℕ, suc, ◌+◌, List, [], ◌∷◌, ◌++◌, Option, Some, option_and_then, drop, slice_get}
 use Rattle.std.proofs.Common.{refl, sym, ◌∙◌, ap, arith, append-nil, zero-add, add-zero, suc-add, add_assoc}
 use Rattle.peg_bytes.specs.ByteSet.{Bytes, has}
-use Rattle.peg_tree.specs.Rows.{Row, rows_of}
+use Rattle.peg_tree.specs.Rows.{Row}
 use Rattle.peg_tree.specs.Trees.{Trees}
 use Rattle.peg_semantics.specs.Record.{Recognition, Failed, Matched, Record, matched_at, after_both, byte_at, prepend_trees}
 use Rattle.peg_semantics.specs.Record.{with_result}
 use Rattle.peg_code.specs.Instructions.{Instruction, Test, Call, Ret, Choice, Commit, FailTwice}
+use Rattle.peg_machine.specs.ShownRows.{shown_rows}
 use Rattle.peg_machine.specs.Local.{BodyContext, SavedChoice, saved_choice, Effects, only_steps, effects_of, then_effects, BodyFailed, Returned, body_result}
 use Rattle.peg_machine.specs.Local.{with_effects, Continuation, backtrack, continue_after, after_answer, step_of, run_local}
 use Rattle.peg_machine.specs.Runs.{RunsAsRecord, EndsAsRecord, ending_of}
@@ -31,9 +32,9 @@ module _ (body_context : BodyContext) where
   -- the result of a part, if that is known
   answer : (r : Record) (result : Recognition) (steps : ℕ) (next : Continuation) (pc : ℕ) (rows : List Row) (choice_points : List SavedChoice)
       → r.result ≡ result
-      → after_answer r steps next pc rows choice_points ≡ with_effects (effects_of r steps) (continue_after next result pc rows choice_points)
+      → after_answer body_context.shown r steps next pc rows choice_points ≡ with_effects (effects_of r steps) (continue_after body_context.shown next result pc rows choice_points)
   answer r result steps next pc rows choice_points is =
-      ap (λ (x : Recognition). with_effects (effects_of r steps) (continue_after next x pc rows choice_points)) is
+      ap (λ (x : Recognition). with_effects (effects_of r steps) (continue_after body_context.shown next x pc rows choice_points)) is
 
   -- ---- the rules
 
@@ -65,7 +66,7 @@ module _ (body_context : BodyContext) where
     runs = λ left rows choice_points.
         ap (λ (k : ℕ). run_local body_context k pc position rows choice_points) (one-more left)
         ∙ round (Call rule) left pc position rows choice_points is
-        ∙ ap (option_and_then (λ (r : Record). after_answer r (body_context.costs rule position) (run_local body_context left) (pc + 1) rows choice_points)) known;
+        ∙ ap (option_and_then (λ (r : Record). after_answer body_context.shown r (body_context.costs rule position) (run_local body_context left) (pc + 1) rows choice_points)) known;
   }
 
   -- a failed run fails wherever it would have continued
@@ -89,10 +90,10 @@ module _ (body_context : BodyContext) where
         ap (λ (k : ℕ). run_local body_context k from position rows choice_points) (add_assoc part.rounds rest.rounds left)
         ∙ part.runs (rest.rounds + left) rows choice_points
         ∙ answer r (Matched end trees) steps (run_local body_context (rest.rounds + left)) middle rows choice_points matched
-        ∙ ap (with_effects (effects_of r steps)) (rest.runs left (rows ++ rows_of trees) choice_points)
-        ∙ with_effects-then_effects (effects_of r steps) (effects_of more more_steps) (continue_after (run_local body_context left) more.result to (rows ++ rows_of trees) choice_points)
+        ∙ ap (with_effects (effects_of r steps)) (rest.runs left (rows ++ shown_rows body_context.shown trees) choice_points)
+        ∙ with_effects-then_effects (effects_of r steps) (effects_of more more_steps) (continue_after body_context.shown (run_local body_context left) more.result to (rows ++ shown_rows body_context.shown trees) choice_points)
         ∙ ap (with_effects (then_effects (effects_of r steps) (effects_of more more_steps)))
-        (continue_after-prepend_trees (run_local body_context left) trees more.result to rows choice_points);
+        (continue_after-prepend_trees body_context.shown (run_local body_context left) trees more.result to rows choice_points);
   }
 
   -- a part with a choice point, followed by the instruction at `middle`
@@ -101,7 +102,7 @@ module _ (body_context : BodyContext) where
     -- the choice point is pushed, and the part runs
     tried : (left : ℕ) (rows : List Row) (choice_points : List SavedChoice)
         → run_local body_context (suc part.rounds + left) pc position rows choice_points
-        ≡ with_effects (only_steps 1) (after_answer r steps (run_local body_context left) middle rows (saved_choice target position rows ∷ choice_points))
+        ≡ with_effects (only_steps 1) (after_answer body_context.shown r steps (run_local body_context left) middle rows (saved_choice target position rows ∷ choice_points))
     tried left rows choice_points =
         ap (λ (k : ℕ). run_local body_context k pc position rows choice_points) (suc-add part.rounds left)
         ∙ round (Choice target) (part.rounds + left) pc position rows choice_points leaves
@@ -118,9 +119,9 @@ module _ (body_context : BodyContext) where
           ∙ ap (with_effects (only_steps 1))
           (answer r Failed steps (run_local body_context (other.rounds + left)) middle rows (saved_choice target position rows ∷ choice_points) failed
           ∙ ap (with_effects (effects_of r steps)) (other.runs left rows choice_points)
-          ∙ with_effects-then_effects (effects_of r steps) (effects_of more more_steps) (continue_after (run_local body_context left) more.result to rows choice_points))
+          ∙ with_effects-then_effects (effects_of r steps) (effects_of more more_steps) (continue_after body_context.shown (run_local body_context left) more.result to rows choice_points))
           ∙ with_effects-then_effects (only_steps 1) (then_effects (effects_of r steps) (effects_of more more_steps))
-          (continue_after (run_local body_context left) more.result to rows choice_points);
+          (continue_after body_context.shown (run_local body_context left) more.result to rows choice_points);
     }
 
     -- the part matched: the choice point is popped, and the run continues at the target of the commit
@@ -135,10 +136,10 @@ module _ (body_context : BodyContext) where
           ∙ ap (with_effects (only_steps 1))
           (answer r (Matched end trees) steps (run_local body_context (suc left)) middle rows (saved_choice target position rows ∷ choice_points) matched
           ∙ ap (with_effects (effects_of r steps))
-          (round (Commit to) left middle end (rows ++ rows_of trees) (saved_choice target position rows ∷ choice_points) commit)
-          ∙ with_effects-then_effects (effects_of r steps) (only_steps 1) (run_local body_context left to end (rows ++ rows_of trees) choice_points)
-          ∙ ap (λ (w : Effects). with_effects w (run_local body_context left to end (rows ++ rows_of trees) choice_points)) (then_effects-steps (effects_of r steps) 1))
-          ∙ with_effects-then_effects (only_steps 1) (effects_of r (steps + 1)) (run_local body_context left to end (rows ++ rows_of trees) choice_points)
+          (round (Commit to) left middle end (rows ++ shown_rows body_context.shown trees) (saved_choice target position rows ∷ choice_points) commit)
+          ∙ with_effects-then_effects (effects_of r steps) (only_steps 1) (run_local body_context left to end (rows ++ shown_rows body_context.shown trees) choice_points)
+          ∙ ap (λ (w : Effects). with_effects w (run_local body_context left to end (rows ++ shown_rows body_context.shown trees) choice_points)) (then_effects-steps (effects_of r steps) 1))
+          ∙ with_effects-then_effects (only_steps 1) (effects_of r (steps + 1)) (run_local body_context left to end (rows ++ shown_rows body_context.shown trees) choice_points)
           ∙ sym (answer r (Matched end trees) (1 + (steps + 1)) (run_local body_context left) to rows choice_points matched);
     }
 
@@ -155,7 +156,7 @@ module _ (body_context : BodyContext) where
           ∙ ap (with_effects (only_steps 1))
           (answer r (Matched end trees) steps (run_local body_context (suc left)) middle rows (saved_choice target position rows ∷ choice_points) matched
           ∙ ap (with_effects (effects_of r steps))
-          (round FailTwice left middle end (rows ++ rows_of trees) (saved_choice target position rows ∷ choice_points) twice)
+          (round FailTwice left middle end (rows ++ shown_rows body_context.shown trees) (saved_choice target position rows ∷ choice_points) twice)
           ∙ with_effects-then_effects (effects_of r steps) (only_steps 1) (backtrack (run_local body_context left) choice_points)
           ∙ ap (λ (w : Effects). with_effects w (backtrack (run_local body_context left) choice_points)) (then_effects-steps (effects_of r steps) 1))
           ∙ with_effects-then_effects (only_steps 1) (effects_of r (steps + 1)) (backtrack (run_local body_context left) choice_points);
@@ -173,7 +174,7 @@ module _ (body_context : BodyContext) where
         ∙ answer r Failed steps (run_local body_context left) to before [] failed
         ∙ ap (λ (w : Effects). Some (body_result BodyFailed w))
         (then_effects-steps (effects_of r steps) 0 ∙ same_work {tests = r.tests} {calls = r.calls} refl refl (add-zero steps))
-        ∙ ap (λ (x : Recognition). Some (body_result (ending_of before x) (effects_of r steps))) (sym failed);
+        ∙ ap (λ (x : Recognition). Some (body_result (ending_of body_context.shown before x) (effects_of r steps))) (sym failed);
   }
 
   -- a body that matched, followed by `Ret`
@@ -186,7 +187,7 @@ module _ (body_context : BodyContext) where
         ∙ ap (λ (k : ℕ). run_local body_context (part.rounds + k) entry position before []) (one-more left)
         ∙ part.runs (suc left) before []
         ∙ answer r (Matched end trees) steps (run_local body_context (suc left)) to before [] matched
-        ∙ ap (with_effects (effects_of r steps)) (round Ret left to end (before ++ rows_of trees) [] returns)
-        ∙ ap (λ (w : Effects). Some (body_result (Returned end (before ++ rows_of trees)) w)) (then_effects-steps (effects_of r steps) 1)
-        ∙ ap (λ (x : Recognition). Some (body_result (ending_of before x) (effects_of r (steps + 1)))) (sym matched);
+        ∙ ap (with_effects (effects_of r steps)) (round Ret left to end (before ++ shown_rows body_context.shown trees) [] returns)
+        ∙ ap (λ (w : Effects). Some (body_result (Returned end (before ++ shown_rows body_context.shown trees)) w)) (then_effects-steps (effects_of r steps) 1)
+        ∙ ap (λ (x : Recognition). Some (body_result (ending_of body_context.shown before x) (effects_of r (steps + 1)))) (sym matched);
   }

@@ -29,7 +29,7 @@ module _ (context : RunContext) where
       let same = awaited context promise wait.0 in
       let work = with_done task (effects_of wait.0.answer (cost_of context task called.pair)) task.to_come in
       let above = within_the_start task.rounds task.frame work.done task.to_come
-      (λ k. continue_after (run_local (body_context_of context task.rounds) k) wait.0.answer.result called.return_pc called.before task.choice_points)
+      (λ k. continue_after context.shown (run_local (body_context_of context task.rounds) k) wait.0.answer.result called.return_pc called.before task.choice_points)
       older wait.0.holds wait.1 in
       let tests : task.done.tests ++ wait.0.answer.tests ++ task.to_come.tests ≡ wait.0.holds.answer.tests =
       ap (λ (w : Effects). w.tests) wait.0.holds.whole in
@@ -86,7 +86,7 @@ module _ (context : RunContext) where
       (subst
       (λ (other : RuleCall). Expectation context task.rounds other task.frame.before
       (then_effects task.done (effects_of wait.0.answer (cost_of context task called.pair))) task.to_come
-      (λ k. continue_after (run_local (body_context_of context task.rounds) k) wait.0.answer.result called.return_pc called.before task.choice_points))
+      (λ k. continue_after context.shown (run_local (body_context_of context task.rounds) k) wait.0.answer.result called.return_pc called.before task.choice_points))
       same wait.0.holds)
       below)
       (no_pair_twice n task.rounds pair before done to_come later task.frame older promise within wait.1)

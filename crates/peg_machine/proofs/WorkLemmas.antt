@@ -1,11 +1,13 @@
 -- Concatenation of work, and continuing after a part whose trees come before others.
-use Rattle.std.proofs.Common.{◌≡◌, ℕ, ◌+◌, List, ◌∷◌, ◌++◌, Option, None, Some, refl, sym, ◌∙◌, ap, append_assoc}
+use Rattle.std.proofs.Common.{◌≡◌, ℕ, ◌+◌, List, ◌++◌, Option, None, Some, refl, sym, ◌∙◌, ap, append_assoc}
 use Rattle.std.proofs.Common.{append-nil, arith, zero-add, add_assoc}
-use Rattle.peg_tree.specs.Rows.{Row, rows_of}
-use Rattle.peg_tree.specs.Trees.{Trees, NoTrees, Tree, nodes, followed_by}
+use Rattle.peg_tree.specs.Rows.{Row}
+use Rattle.peg_tree.specs.Trees.{Trees}
 use Rattle.peg_semantics.specs.Record.{Recognition, Failed, Matched, RuleCall, prepend_trees}
 use Rattle.peg_semantics.specs.Record as ford
 use Rattle.peg_machine.specs.Local.{SavedChoice, Effects, only_steps, then_effects, BodyResult, body_result, with_effects, Continuation, continue_after}
+use Rattle.peg_machine.specs.ShownRows.{shown_rows, Shown}
+use Rattle.peg_machine.proofs.ShownLemmas.{shown_rows-followed_by}
 
 -- ---- work
 
@@ -48,18 +50,13 @@ with_effects-then_effects first second (Some finish) =
 
 -- ---- continuing
 
--- the nodes of concatenated trees
-pub rows_of-followed_by : (trees more : Trees) → rows_of (followed_by trees more) ≡ rows_of trees ++ rows_of more
-rows_of-followed_by NoTrees more = refl
-rows_of-followed_by (Tree rule start end children rest) more =
-    ap (λ rows. record { rule = rule; start = start; end = end; size = 1 + nodes children } ∷ rows)
-    (ap (λ rows. rows_of children ++ rows) (rows_of-followed_by rest more)
-    ∙ sym (append_assoc (rows_of children) (rows_of rest) (rows_of more)))
-
 -- continuing after the nodes of some trees is continuing with these trees before the result's
-pub continue_after-prepend_trees : (next : Continuation) (trees : Trees) (result : Recognition) (pc : ℕ) (rows : List Row) (choice_points : List SavedChoice)
-    → continue_after next result pc (rows ++ rows_of trees) choice_points ≡ continue_after next (prepend_trees trees result) pc rows choice_points
-continue_after-prepend_trees next trees Failed pc rows choice_points = refl
-continue_after-prepend_trees next trees (Matched end more) pc rows choice_points =
+pub continue_after-prepend_trees : (shown : Shown) (next : Continuation) (trees : Trees) (result : Recognition) (pc : ℕ) (rows : List Row)
+    (choice_points : List SavedChoice)
+    → continue_after shown next result pc (rows ++ shown_rows shown trees) choice_points
+    ≡ continue_after shown next (prepend_trees trees result) pc rows choice_points
+continue_after-prepend_trees shown next trees Failed pc rows choice_points = refl
+continue_after-prepend_trees shown next trees (Matched end more) pc rows choice_points =
     ap (λ all. next pc end all choice_points)
-    (append_assoc rows (rows_of trees) (rows_of more) ∙ ap (λ all. rows ++ all) (sym (rows_of-followed_by trees more)))
+    (append_assoc rows (shown_rows shown trees) (shown_rows shown more)
+    ∙ ap (λ all. rows ++ all) (sym (shown_rows-followed_by shown trees more)))

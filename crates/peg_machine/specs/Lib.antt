@@ -19,8 +19,10 @@ pub mod Running
 pub mod Runs
 pub mod SelectedTests
 pub mod ShortcutSteps
+pub mod ShownRows
 pub mod Starts
 pub mod StepExamples
 pub mod Steps
 pub mod Traced
 pub mod Watched
+pub mod WholeCalls

@@ -1,15 +1,15 @@
 -- The entries of a memo while a run is active, and the invariant on them.
-use Rattle.std.specs.Prelude.{◌≡◌, ◌≢◌, ℕ, ◌+◌, ◌*◌, ◌<◌, ◌≤◌, ◌⊎◌, Bool, false, if◌then◌else◌, IsTrue, List, Some, length}
+use Rattle.std.specs.Prelude.{◌≡◌, ◌≢◌, ◌+◌, ◌*◌, ◌≤◌, Bool, false, List, Some, length}
 use Rattle.std.specs.FinMap as map
 use Rattle.std.specs.List.{AllPairs}
-use Rattle.peg_tree.specs.Rows.{rows_of}
 use Rattle.peg_semantics.specs.Record.{Recognition, Failed, Matched, Record, Test, RuleCall}
 use Rattle.peg_memo.specs.MemoMap.{MemoMap}
 use Rattle.peg_memo.specs.StoredResult.{StoredResult, StoredFailure, StoredMatch}
 pub use Rattle.peg_memo.specs.StoreState.{MemoState, memo_state, IsTouched}
 use Rattle.peg_memo.specs.StoreState.{IsOfferedAt}
-use Rattle.peg_machine.specs.Packrat.{IsInMemo, AreInMemoOrActive}
+use Rattle.peg_machine.specs.Packrat.{AreInMemoOrActive}
 use Rattle.peg_machine.specs.Running.{RunContext}
+use Rattle.peg_machine.specs.ShownRows.{shown_rows, Shown}
 use Rattle.peg_machine.specs.PartialRuns.{ActiveCall, MayBeStored}
 
 -- ---- a memo at a moment
@@ -21,16 +21,16 @@ IsOffered old pair result kept new = IsOfferedAt old (pair.rule, pair.position) 
 -- ---- the invariant
 
 -- what a memo stores of a record
-abbrev pub stored_result : Recognition → StoredResult
-stored_result Failed = StoredFailure
-stored_result (Matched end trees) = StoredMatch end (rows_of trees)
+abbrev pub stored_result : Shown → Recognition → StoredResult
+stored_result shown Failed = StoredFailure
+stored_result shown (Matched end trees) = StoredMatch end (shown_rows shown trees)
 
 -- a stored result that is the result of a record that may be stored
 pub record IsResultOf (context : RunContext) (tests : List Test) (traced : List RuleCall) (pair : RuleCall)
     (result : StoredResult) : Type 0 where
   pub r : Record
   pub may_be_stored : MayBeStored context tests traced pair r
-  pub is : stored_result r.result ≡ result
+  pub is : stored_result context.shown r.result ≡ result
 
 -- each entry is such a result
 abbrev pub EntriesAreRecords : RunContext → List Test → List RuleCall → MemoMap → Type 0

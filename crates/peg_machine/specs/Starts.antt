@@ -3,7 +3,7 @@ use Rattle.std.specs.Prelude.{◌≡◌, ℕ, ◌+◌, List, [], ◌∷◌, Some
 use Rattle.peg_tree.specs.Rows.{Row}
 use Rattle.peg_semantics.specs.Record.{Record, RuleCall, as_call}
 use Rattle.peg_machine.specs.Local.{Effects, effects_of, then_effects}
-use Rattle.peg_machine.specs.OpenRows.{opened}
+use Rattle.peg_machine.specs.OpenRows.{opened, root_rows}
 use Rattle.peg_machine.specs.Running.{RunContext, CallTask, new_task, steps_of_call, RunsAsExpected}
 use Rattle.peg_machine.specs.Steps.{body_steps_in}
 
@@ -15,7 +15,8 @@ pub record RunStart (context : RunContext) (entries : List ℕ) (pair : RuleCall
   pub rounds : ℕ
   pub steps : ℕ
   pub counts : body_steps_in context.counted 1 context.bodies context.text rounds pair.rule pair.position ≡ Some steps
-  pub as_expected : RunsAsExpected context entry pair.position (opened [] pair) (new_task pair 0 [] rounds
+  pub as_expected : RunsAsExpected context entry pair.position
+      (opened context.shown (root_rows context.shown pair) pair) (new_task pair 0 (root_rows context.shown pair) rounds
       (effects_of answer steps)) []
 
 -- A call has entered the body of its rule: it is at the entry of the rule, with its node open. The caller's remaining
@@ -32,5 +33,5 @@ pub record CallStart (context : RunContext) (entries : List ℕ) (pc : ℕ) (row
   pub rest : Effects
   pub costs : task.to_come
       ≡ then_effects (effects_of (as_call pair.rule pair.position answer) (steps_of_call context.counted steps)) rest
-  pub as_expected : RunsAsExpected context entry pair.position (opened rows pair)
+  pub as_expected : RunsAsExpected context entry pair.position (opened context.shown rows pair)
       (new_task pair (pc + 1) rows rounds (effects_of answer steps)) (record task { to_come = rest } ∷ older)

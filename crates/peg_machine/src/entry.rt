@@ -3,7 +3,8 @@
 /// A stack entry: an active call of a rule, or a choice point. It stores the number of nodes at the time of its push.
 #[derive(Clone, Copy, Debug)]
 pub(crate) enum Entry {
-    /// An active call: its rule, its start, and the instruction to return to. Its node is at index `rows`.
+    /// An active call: its rule, its start, and the instruction to return to. Its node, if its rule is shown, is at
+    /// index `rows`.
     Frame {
         rule: u32,
         start: u32,

@@ -19,6 +19,7 @@
 
 pub mod account_laws;
 mod answer;
+mod call_nodes;
 mod entry;
 mod failure_positions;
 mod fault;

@@ -43,8 +43,9 @@ pub fn a_hit_or_a_call()
         → RunInvariant context trace tests memo (RunsAt pc position rows) (active ∷ below)
         → (rule : ℕ) (result : StoredResult) → slice_get context.code pc ≡ Some (Call rule)
         → map.get memo.entries (rule, position) ≡ Some result
-        → (r : Record) × (stored_result r.result ≡ result) × (more : ℕ)
-        × RunInvariant context (after_hit more trace) tests memo (mode_after r.result (pc + 1) rows) (active ∷ below) }
+        → (r : Record) × (stored_result context.shown r.result ≡ result) × (more : ℕ)
+        × RunInvariant context (after_hit more trace) tests memo (mode_after context.shown r.result (pc + 1) rows)
+        (active ∷ below) }
     ensures begins { (context : RunContext) (trace : Trace) (tests : List Test) (memo : MemoState) (pc position : ℕ)
         (rows : List Row)
         (active : ActiveCall) (below : List ActiveCall)
@@ -54,7 +55,7 @@ pub fn a_hit_or_a_call()
         → map.get memo.entries (rule, position) ≡ None)
         → (entry : ℕ) × (slice_get entries rule ≡ Some entry)
         × RunInvariant context (after_traced_call (record { rule = rule; position = position }) trace) tests memo
-        (RunsAt entry position (opened rows (record { rule = rule; position = position })))
+        (RunsAt entry position (opened context.shown rows (record { rule = rule; position = position })))
         (record {
           frame = record { pair = record { rule = rule; position = position }; return_pc = pc + 1; before = rows };
           choice_points = [];

@@ -10,14 +10,15 @@ ghost use Rattle.peg_machine.specs.Local.{then_effects, backtrack, run_local, on
 ghost use Rattle.peg_machine.specs.Local.{BodyResult, Continuation, SavedChoice, Effects};
 ghost use Rattle.peg_machine.specs.Noted.{IsNoted, TaskNoted};
 ghost use Rattle.peg_machine.specs.Running.{new_task, resume_task, body_context_of, oldest_call};
-ghost use Rattle.peg_machine.specs.OpenRows.{close_row, rows_after_match, opened};
+ghost use Rattle.peg_machine.specs.OpenRows.{close_row, root_rows, rows_after_match, opened};
 ghost use Rattle.peg_machine.specs.Running.{steps_of_call, with_done, work_to_come};
 ghost use Rattle.peg_machine.specs.Running.{AreSuspended, IsBacktrackingTask, IsBacktracking, Frame, IsContinuing, RunContext, IsExpectedBy, Expectation};
 ghost use Rattle.peg_machine.specs.Starts.{CallStart};
 ghost use Rattle.peg_machine.specs.Running.{RunsAsExpected, IsRunningTask, CallTask};
 ghost use Rattle.peg_machine.specs.Starts.{RunStart};
 ghost use Rattle.peg_machine.specs.CodeLayout.{EntriesAreLaidOut};
-ghost use Rattle.peg_tree.specs.Rows.{Row, rows_of};
+ghost use Rattle.peg_tree.specs.Rows.{Row};
+ghost use Rattle.peg_machine.specs.ShownRows.{shown_rows, Shown};
 ghost use Rattle.peg_tree.specs.Trees.{Trees};
 
 /// A run from a call whose body has a record is expected to compute this record.
@@ -105,26 +106,28 @@ pub fn a_call_is_answered_or_starts()
         ∷ record task { to_come = begins.rest } ∷ older)).calls ≡ (work_to_come (task ∷ older)).calls) }
 {}
 
-/// At the end of its rule a call returns to its caller with its node closed. The start returns to instruction 0.
+/// At the end of its rule a call returns to its caller with its node closed, if it has one. The start returns to
+/// instruction 0.
 pub fn a_call_returns_with_its_tree()
     ensures returns { (context : RunContext) (pc position : ℕ) (rows : List Row) (task caller : CallTask)
         (older : List CallTask)
         (as_expected : RunsAsExpected context pc position rows task (caller ∷ older))
         → slice_get context.code pc ≡ Some Ret
         → (trees : Trees) × (task.choice_points ≡ []) × (task.to_come ≡ only_steps 1)
-        × (opened task.frame.before task.frame.pair ++ rows_of trees ≡ rows)
+        × (opened context.shown task.frame.before task.frame.pair ++ shown_rows context.shown trees ≡ rows)
         × (as_expected.0.answer.result ≡ Matched position trees)
         × RunsAsExpected context task.frame.return_pc position
-        (rows_after_match task.frame.before task.frame.pair position trees)
+        (rows_after_match context.shown task.frame.before task.frame.pair position trees)
         (resume_task context caller task.frame.pair as_expected.0.answer) older }
     ensures start { (context : RunContext) (pc position : ℕ) (rows : List Row) (task : CallTask)
         (as_expected : RunsAsExpected context pc position rows task []) → slice_get context.code pc ≡ Some Ret
         → (trees : Trees) × (task.choice_points ≡ []) × (task.to_come ≡ only_steps 1) × (task.frame.return_pc ≡ 0)
-        × (task.frame.before ≡ []) × (opened task.frame.before task.frame.pair ++ rows_of trees ≡ rows)
+        × (task.frame.before ≡ root_rows context.shown task.frame.pair)
+        × (opened context.shown task.frame.before task.frame.pair ++ shown_rows context.shown trees ≡ rows)
         × (as_expected.0.answer.result ≡ Matched position trees) }
-    ensures row { (before : List Row) (pair : RuleCall) (end : ℕ) (trees : Trees)
-        → close_row (length before) (opened before pair ++ rows_of trees) pair end
-        ≡ rows_after_match before pair end trees }
+    ensures row { (shown : Shown) (before : List Row) (pair : RuleCall) (end : ℕ) (trees : Trees)
+        → close_row shown (length before) (opened shown before pair ++ shown_rows shown trees) pair end
+        ≡ rows_after_match shown before pair end trees }
 {}
 
 /// A task that fails resumes at its newest choice point. Without one its record is failed, and its caller fails too.

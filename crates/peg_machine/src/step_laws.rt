@@ -10,7 +10,7 @@ ghost use Rattle.peg_machine.specs.Local.{effects_of, only_steps, run_local, ste
 ghost use Rattle.peg_machine.specs.Local.{CallAnswers, CallCosts, Continuation, Effects, SavedChoice};
 ghost use Rattle.peg_machine.specs.Noted.{IsNoted};
 ghost use Rattle.peg_machine.specs.Running.{steps_of_call, RunContext};
-ghost use Rattle.peg_machine.specs.OpenRows.{opened};
+ghost use Rattle.peg_machine.specs.OpenRows.{opened, root_rows};
 ghost use Rattle.peg_machine.specs.CodeLayout.{EntriesAreLaidOut};
 ghost use Rattle.peg_machine.specs.Steps.{body_steps_in};
 ghost use Rattle.peg_machine.specs.PartialRuns.{result_in_mode, mode_after, ActiveCall, MayBeStored, Mode, Backtracks, CallHasFailed};
@@ -26,8 +26,11 @@ pub fn a_run_begins()
         → (entry : ℕ) × (n : ℕ) × (steps : ℕ) × (slice_get entries start.rule ≡ Some entry)
         × (body_steps_in context.counted 1 context.bodies context.text n start.rule start.position ≡ Some steps)
         × PartialRun context start answer [] (start ∷ []) (effects_of answer steps)
-        (RunsAt entry start.position (opened [] start))
-        (record { frame = record { pair = start; return_pc = 0; before = [] }; choice_points = [] } ∷ []) }
+        (RunsAt entry start.position (opened context.shown (root_rows context.shown start) start))
+        (record {
+          frame = record { pair = start; return_pc = 0; before = root_rows context.shown start };
+          choice_points = [];
+        } ∷ []) }
 {}
 
 /// An active run is never stuck: there is an instruction, which isn't `End`, and at least one step remains.
@@ -126,7 +129,13 @@ pub fn a_step_consumes_remaining_work()
         → ((test : Test) → Contains more_tests test → Contains tests test ⊎ Contains work.tests test)
         → IsNoted more_tests calls work
         → ((reads : CallAnswers) (costs : CallCosts) (later : Continuation)
-        → step_of (record { code = context.code; text = context.text; calls = reads; costs = costs }) later
+        → step_of (record {
+          code = context.code;
+          shown = context.shown;
+          text = context.text;
+          calls = reads;
+          costs = costs;
+        }) later
         (slice_get context.code pc) pc position rows active.choice_points ≡ with_effects work
         (result_in_mode next later choice_points))
         → (left : Effects) × (to_come ≡ then_effects work left)
@@ -142,11 +151,11 @@ pub fn a_step_consumes_remaining_work()
         → ((test : Test) → Contains more_tests test → Contains tests test ⊎ Contains work.tests test)
         → IsNoted more_tests calls work
         → ((reads : CallAnswers) (costs : CallCosts) (left : ℕ)
-        → run_local (record { code = context.code; text = context.text; calls = reads; costs = costs })
+        → run_local (record { code = context.code; shown = context.shown; text = context.text; calls = reads; costs = costs })
         (k + left) pc position rows
         active.choice_points
         ≡ with_effects work (result_in_mode next
-        (run_local (record { code = context.code; text = context.text; calls = reads; costs = costs }) left)
+        (run_local (record { code = context.code; shown = context.shown; text = context.text; calls = reads; costs = costs }) left)
         choice_points))
         → (left : Effects) × (to_come ≡ then_effects work left)
         × PartialRun context start answer more_tests calls left next
@@ -164,7 +173,7 @@ pub fn a_call_hits_or_starts()
         → (n : ℕ) × (steps : ℕ) × (left : Effects)
         × (body_steps_in context.counted 1 context.bodies context.text n rule position ≡ Some steps)
         × (to_come ≡ then_effects (effects_of r (steps_of_call context.counted steps)) left)
-        × PartialRun context start answer tests calls left (mode_after r.result (pc + 1) rows) (active ∷ below) }
+        × PartialRun context start answer tests calls left (mode_after context.shown r.result (pc + 1) rows) (active ∷ below) }
     ensures begins { (context : RunContext) (start : RuleCall) (answer : Record) (entries : List ℕ)
         → EntriesAreLaidOut context.code entries context.bodies
         → (tests : List Test) (calls more_uses : List RuleCall) (to_come : Effects) (pc : ℕ) (rows : List Row)
@@ -177,7 +186,7 @@ pub fn a_call_hits_or_starts()
         × (body_steps_in context.counted 1 context.bodies context.text n pair.rule pair.position ≡ Some steps)
         × (steps_of_call context.counted steps + left.steps ≡ steps + to_come.steps)
         × (pair ∷ left.calls ≡ to_come.calls)
-        × PartialRun context start answer tests more_uses left (RunsAt entry pair.position (opened rows pair))
+        × PartialRun context start answer tests more_uses left (RunsAt entry pair.position (opened context.shown rows pair))
         (record { frame = record { pair = pair; return_pc = pc + 1; before = rows }; choice_points = [] } ∷ active
         ∷ below) }
 {}
@@ -205,7 +214,7 @@ pub fn a_run_ends_as_its_record_says()
         (to_come : Effects) (pc position : ℕ) (rows : List Row) (active : ActiveCall)
         → PartialRun context start answer tests calls to_come (RunsAt pc position rows) (active ∷ [])
         → slice_get context.code pc ≡ Some Ret
-        → RunMatched start answer tests calls to_come position rows active }
+        → RunMatched context.shown start answer tests calls to_come position rows active }
     ensures fails { (context : RunContext) (start : RuleCall) (answer : Record) (tests : List Test)
         (calls : List RuleCall)
         (to_come : Effects) (active : ActiveCall)

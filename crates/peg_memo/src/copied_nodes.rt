@@ -94,6 +94,12 @@ impl<K: Keep> NodeStore for CopiedNodes<'_, K> {
         self.memo.keep(rule, start, Found::Done { end, nodes })
     }
 
+    fn finish_hidden(&mut self, at: usize, rule: u32, start: u32, end: u32) -> bool {
+        let within = nodes_from(&self.nodes, at);
+        self.memo
+            .keep(rule, start, Found::Done { end, nodes: within })
+    }
+
     fn take_nodes(&mut self) -> Result<Vec<TreeNode>, AllocError> {
         Ok(mem::replace(&mut self.nodes, Vec::new(self.alloc)))
     }

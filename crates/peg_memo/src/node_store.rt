@@ -3,7 +3,7 @@ ghost use Rattle.std.specs.Prelude.{◌≡◌, ◌^◌, ◌<◌, ◌≤◌, ◌�
 ghost use Rattle.std.specs.Borrow.{GName};
 ghost use Rattle.peg_memo.specs.StoredResult.{StoredFailure, StoredMatch};
 ghost use Rattle.peg_memo.specs.StoreState.{closed_at, with_nodes, IsOfferedAt, IsTouched, Recalls, StoreState};
-ghost use Rattle.peg_nodes.specs.OpenNodes.{IsOpenAt};
+ghost use Rattle.peg_nodes.specs.OpenNodes.{AreClosed, IsOpenAt};
 ghost use Rattle.peg_tree.specs.Rows.{row_of};
 
 use peg_tree::TreeNode;
@@ -97,6 +97,19 @@ pub trait NodeStore {
         ensures memo { IsOfferedAt (state self.old).memo (rule, start)
             (StoredMatch end (drop at (closed_at at (state self.old).nodes rule start end))) result
             (state self.new).memo }
+        ensures cuts { (count : ℕ) → count ≤ at → cuts self.old count → cuts self.new count }
+        ensures lender { lender self.new ≡ lender self.old };
+
+    /// Offers a match without a node of its own to the memo: a rule has matched from `start` to `end`, and the nodes
+    /// within it are those from the index `at` on. Returns whether it is stored now. The nodes stay.
+    fn finish_hidden(&mut self, at: usize, rule: u32, start: u32, end: u32) -> bool
+        requires cut { cuts self.old at }
+        requires are_closed { AreClosed (drop at (state self.old).nodes) }
+        requires within { at ≤ length (state self.old).nodes }
+        requires order { start ≤ end }
+        ensures nodes { (state self.new).nodes ≡ (state self.old).nodes }
+        ensures memo { IsOfferedAt (state self.old).memo (rule, start)
+            (StoredMatch end (drop at (state self.old).nodes)) result (state self.new).memo }
         ensures cuts { (count : ℕ) → count ≤ at → cuts self.old count → cuts self.new count }
         ensures lender { lender self.new ≡ lender self.old };
 

@@ -20,6 +20,9 @@ use peg_nodes::LinkedNodes;
 use peg_tree::TreeNode;
 use std::alloc::{AllocError, Global};
 
+// The items of a match without a node are counted up to this number.
+const MAX_COUNTED_ITEMS: usize = 64;
+
 /// The nodes of a run over one text, with links in the place of stored results, and a memo of bounded size. The memo
 /// stores the results that are worth their cost. It relies on the order of calls that a machine makes: `touch`, then
 /// `recall`, and then `finish` or `fail` at the end of the body if nothing was found. In any other order it still
@@ -169,6 +172,50 @@ impl SelectiveStore<'_> {
         false
     }
 
+    // Stores a match whose nodes are those from `at` on, if it is wanted. Returns whether it is stored now.
+    fn close_hidden(&mut self, at: usize, rule: u32, start: u32, end: u32) -> bool
+        requires are_closed { AreClosed (drop at (nodes_of self.old.nodes)) }
+        requires within { at ≤ length (nodes_of self.old.nodes) }
+        ensures nodes { nodes_of self.new.nodes ≡ nodes_of self.old.nodes }
+        ensures memo { IsOfferedAt (state_by self.old).memo (rule, start)
+            (StoredMatch end (drop at (nodes_of self.old.nodes))) result (state_by self.new).memo }
+        ensures cuts { (count : ℕ) → count ≤ at → IsCut self.old.nodes count → IsCut self.new.nodes count }
+    {
+        let count = self.nodes.len() - at;
+        let size = Size::of_match(self.items_after(at, count), count as u64, start, end);
+        if self.is_wanted(rule, start, size) {
+            return self.store_hidden(at, rule, start, end, size);
+        }
+        false
+    }
+
+    // Stores a match whose nodes are those from `at` on. Returns whether it is stored now.
+    fn store_hidden(&mut self, at: usize, rule: u32, start: u32, end: u32, size: Size) -> bool
+        requires are_closed { AreClosed (drop at (nodes_of self.old.nodes)) }
+        ensures nodes { nodes_of self.new.nodes ≡ nodes_of self.old.nodes }
+        ensures memo { IsOfferedAt (state_by self.old).memo (rule, start)
+            (StoredMatch end (drop at (nodes_of self.old.nodes))) result (state_by self.new).memo }
+        ensures cuts { (count : ℕ) → count ≤ at → IsCut self.old.nodes count → IsCut self.new.nodes count }
+    {
+        if at >= self.nodes.len() {
+            let link = self.nodes.empty_link();
+            return self.store(rule, start, LinkedResult::Matched { end, link }, size);
+        }
+        match self.nodes.item_at(at, usize::MAX) {
+            Some(index) => self.store_match(index, at, rule, start, end, size),
+            None => false,
+        }
+    }
+
+    // The number of items of the nodes from `at` on, of which there are `count`; `count` if there are too many items to
+    // count them.
+    fn items_after(&self, at: usize, count: usize) -> u64 {
+        match self.nodes.item_at(at, MAX_COUNTED_ITEMS) {
+            Some(index) => self.nodes.items_from(index) as u64,
+            None => count as u64,
+        }
+    }
+
     // Moves the nodes from an item on to the store, and stores a match with a link to them.
     #[inline(never)]
     fn store_match(
@@ -304,6 +351,11 @@ impl NodeStore for SelectiveStore<'_> {
     fn finish(&mut self, at: usize, rule: u32, start: u32, end: u32) -> bool {
         self.make_room_if_full(end);
         self.close(at, rule, start, end)
+    }
+
+    fn finish_hidden(&mut self, at: usize, rule: u32, start: u32, end: u32) -> bool {
+        self.make_room_if_full(end);
+        self.close_hidden(at, rule, start, end)
     }
 
     fn take_nodes(&mut self) -> Result<Vec<TreeNode>, AllocError> {

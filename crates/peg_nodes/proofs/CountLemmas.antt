@@ -1,7 +1,8 @@
 -- Numbers of nodes, and cuts.
-use Rattle.std.proofs.Common.{◌≡◌, ◌⊎◌, inl, inr, ℕ, ◌+◌, ◌<◌, ◌≤◌, List, [], ◌∷◌, ◌++◌, length, take, drop, refl}
+use Rattle.std.proofs.Common.{◌≡◌, ◌⊎◌, inl, inr, ℕ, suc, ◌+◌, ◌-◌, ◌<◌, ◌≤◌, List, [], ◌∷◌, ◌++◌, get_or, length, take, drop, refl}
 use Rattle.std.proofs.Common.{sym, ◌∙◌, ap, arith, length-append, take-append-drop}
 use Rattle.std.specs.List.{All}
+use Rattle.std.proofs.Math.Seq.{take-suc}
 use Rattle.std.proofs.lemmas.Bool.{cases_lt}
 use Rattle.std.proofs.lemmas.List.{take_at, drop_at, take-take, take-append-le, take_all}
 use Rattle.std.proofs.lemmas.List.Concat.{flat_map-append}
@@ -32,6 +33,18 @@ count_of-append [] more = omega arith
 count_of-append (item ∷ items) more = omega (arith, count_of-append items more)
 
 -- ---- the nodes of some of the items
+
+-- the nodes of the items up to one of them, and of this one
+pub count_of-next : (items : List Item) (index : ℕ) (item : Item) → 0 < index → index ≤ length items
+    → item ≡ get_or items (index - 1) item
+    → count_of (take index items) ≡ count_of (take (index - 1) items) + item_count item
+count_of-next items index item some within is =
+    let next : index ≡ suc (index - 1) = omega arith in
+    ap (λ n. count_of (take n items)) next
+    ∙ ap count_of (take-suc items (index - 1) item (omega arith))
+    ∙ count_of-append (take (index - 1) items) (get_or items (index - 1) item ∷ [])
+    ∙ ap (λ (i : Item). count_of (take (index - 1) items) + (item_count i + 0)) (sym is)
+    ∙ omega arith
 
 -- the nodes of the first items, and those of the others
 pub expand-split : (images : List (List Row)) (items : List Item) (kept : ℕ)

@@ -1,7 +1,8 @@
 //! The nodes of a run, with links to stored results.
 ghost use Rattle.std.specs.Prelude.{◌≡◌, ℕ, ◌+◌, ◌-◌, ◌^◌, ◌<◌, ◌≤◌, ◌∷◌, ◌++◌, [], drop, length, map, set, take};
-ghost use Rattle.std.specs.Prelude.{if◌then◌else◌, is_ok, IfOk, OnErr, OnOk};
+ghost use Rattle.std.specs.Prelude.{if◌then◌else◌, is_ok, IfOk, IfSome, OnErr, OnOk};
 ghost use Rattle.peg_tree.specs.Rows.{row_of};
+ghost use Rattle.peg_nodes.specs.Invariant.{item_count};
 ghost use Rattle.peg_nodes.specs.Places.{flat_place, places_before};
 ghost use Rattle.peg_nodes.specs.Linked.{linked, nodes_of, link_nodes, IsLink, IsCut, IsItemAt};
 ghost use Rattle.peg_nodes.specs.Linked.{KeepsCuts, KeepsCutsUpTo, KeepsLinks};
@@ -152,9 +153,43 @@ impl LinkedNodes {
         if link.count > (MAX_NODES - self.count) as u64 {
             return Err(AllocError);
         }
+        if link.count == 0 {
+            return Ok(());
+        }
         self.items.push(Item::Stored(link))?;
         self.count += link.count as usize;
         Ok(())
+    }
+
+    /// Returns a link that denotes no nodes.
+    pub fn empty_link(&self) -> Link
+        ensures link { IsLink self.now result }
+        ensures empty { link_nodes self.now result ≡ [] }
+    {
+        let _ = &self.stored;
+        Link {
+            start: 0,
+            len: 0,
+            count: 0,
+        }
+    }
+
+    /// Returns the index of the item with `at` nodes before it, if it is one of the last `most` items. Linear in the
+    /// number of items after it, and at most in `most`.
+    pub fn item_at(&self, at: usize, most: usize) -> Option<usize>
+        ensures { IfSome result (λ index. IsItemAt self.now index at) }
+    {
+        let mut index = self.items.len();
+        let mut before = self.count;
+        let least = index.saturating_sub(most);
+        'items: while index > least && before > at {
+            index -= 1;
+            before -= nodes_in(self.items[index]);
+            if before == at {
+                return Some(index);
+            }
+        }
+        None
     }
 
     /// Returns the number of items from `index` on: what `store_from` would move.
@@ -247,6 +282,17 @@ impl LinkedNodes {
             }
             None => {}
         }
+    }
+}
+
+// The number of nodes of an item.
+fn nodes_in(item: Item) -> usize
+    requires { item_count item < 2 ^ 64 }
+    ensures { result ≡ item_count item }
+{
+    match item {
+        Item::Node(_) => 1,
+        Item::Stored(link) => link.count as usize,
     }
 }
 

@@ -1,6 +1,6 @@
 -- The outcome of a rule's core form is that of Ford's relation on the grammar as written, from the rule's name.
 use Rattle.std.proofs.Common.{◌≡◌, ◌≢◌, ℕ, zero, suc, ◌+◌, ◌<◌, AllPairs, Bool, true, false, if◌then◌else◌, List, [], ◌∷◌}
-use Rattle.std.proofs.Common.{length, Option, Some, option_map, unwrap_or, bytes_eq, refl, sym, ap, subst, ◌∙◌}
+use Rattle.std.proofs.Common.{length, Option, None, Some, option_map, unwrap_or, bytes_eq, refl, sym, ap, subst, ◌∙◌}
 use Rattle.std.proofs.Common.{add-zero, zero-add, arith}
 use Rattle.std.proofs.lemmas.Bool.{false_from_ne_true}
 use Rattle.std.proofs.lemmas.List.{length-map}
@@ -87,7 +87,7 @@ number-named parser start less =
 -- the outcome of a rule's call on core forms is that of the rule's name
 written-outcome : (among : Option (List ℕ)) (rules : List Rule) (text : List ℕ) (start : ℕ) (outcome : Outcome)
     → AreBytes text → number_of rules (name_of rules start) ≡ start
-    → IsCoreOutcomeBy among (core_bodies rules) text start outcome
+    → IsCoreOutcomeBy None among (core_bodies rules) text start outcome
     → IsParseOutcomeBy among rules text (name_of rules start) outcome
 written-outcome among rules text start outcome bytes same is =
     let held = is.1 in
@@ -100,9 +100,9 @@ written-outcome among rules text start outcome bytes same is =
 -- the result of a parser's program on a text is the outcome of the grammar as written
 pub parser-outcome : (among : Option (List ℕ)) (parser : Parser) (text : List ℕ) (start : ℕ) (outcome : Outcome)
     → AreBytes text → start < length (parser_rules parser)
-    → IsCoreOutcomeBy among (bodies_of parser.program.core) text start outcome
+    → IsCoreOutcomeBy None among (bodies_of parser.program.core) text start outcome
     → IsParseOutcomeBy among (parser_rules parser) text (name_of (parser_rules parser) start) outcome
 parser-outcome among parser text start outcome bytes less is =
     let rules = parser_rules parser in
     written-outcome among rules text start outcome bytes (number-named parser start less)
-    (subst (λ (bodies : List CoreForm). IsCoreOutcomeBy among bodies text start outcome) (same-bodies parser) is)
+    (subst (λ (bodies : List CoreForm). IsCoreOutcomeBy None among bodies text start outcome) (same-bodies parser) is)

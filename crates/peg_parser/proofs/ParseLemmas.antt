@@ -91,7 +91,7 @@ module _ (among : Option (List ℕ)) (parser : Parser) (text : List ℕ) (start 
     (gets : List RuleCall → Type 0) (less : start < length (parser_rules parser))
     (found : start_name (parser_rules parser) named ≡ Some (name_of (parser_rules parser) start)) where
   limit_of_run : (result : Result Answer RunFault)
-      → IsRun among (bodies_of parser.program.core) text start max_steps is_plain capacity allocation_failed gets result
+      → IsRun None among (bodies_of parser.program.core) text start max_steps is_plain capacity allocation_failed gets result
       → HasStepLimit (parser_rules parser) text named is_plain max_steps (result_of result)
   limit_of_run (Ok answer) is = record {
     limited = λ limit. absurd (let no : ⊥ = cc in no);
@@ -106,7 +106,7 @@ module _ (among : Option (List ℕ)) (parser : Parser) (text : List ℕ) (start 
 
   -- the steps of an answer are those of the calls that were made
   own_of_run : (answer : Answer) → AreBytes text
-      → IsRun among (bodies_of parser.program.core) text start max_steps is_plain capacity allocation_failed gets (Ok answer)
+      → IsRun None among (bodies_of parser.program.core) text start max_steps is_plain capacity allocation_failed gets (Ok answer)
       → IsSumOfSteps (parser_rules parser) text (name_of (parser_rules parser) start) answer
   own_of_run answer bytes is =
       let traced = is.traced.2 in record {
@@ -116,7 +116,7 @@ module _ (among : Option (List ℕ)) (parser : Parser) (text : List ℕ) (start 
       }
 
   steps_of_run : (result : Result Answer RunFault) → AreBytes text
-      → IsRun among (bodies_of parser.program.core) text start max_steps is_plain capacity allocation_failed gets result
+      → IsRun None among (bodies_of parser.program.core) text start max_steps is_plain capacity allocation_failed gets result
       → HasParseSteps (parser_rules parser) text named is_plain max_steps (result_of result)
   steps_of_run (Ok answer) bytes is = record {
     allowed = is.allowed;
@@ -132,7 +132,7 @@ module _ (among : Option (List ℕ)) (parser : Parser) (text : List ℕ) (start 
   steps_of_run (Err fault) bytes is = record { allowed = tt; plain = tt; exact = λ plain. tt; own = tt }
 
   outcome_of_run : (result : Result Answer RunFault) → AreBytes text
-      → IsRun among (bodies_of parser.program.core) text start max_steps is_plain capacity allocation_failed gets result
+      → IsRun None among (bodies_of parser.program.core) text start max_steps is_plain capacity allocation_failed gets result
       → IfOk (result_of result) (λ answer.
       IsParseOutcomeBy among (parser_rules parser) text (name_of (parser_rules parser) start) answer.outcome)
   outcome_of_run (Ok answer) bytes is = parser-outcome among parser text start answer.outcome bytes less is.outcome
@@ -149,7 +149,7 @@ module _ (among : Option (List ℕ)) (parser : Parser) (text : List ℕ) (start 
   named_outcome (Err fault) is = tt
 
   pub parse_of_run : (result : Result Answer RunFault) → AreBytes text
-      → IsRun among (bodies_of parser.program.core) text start max_steps is_plain capacity allocation_failed gets result
+      → IsRun None among (bodies_of parser.program.core) text start max_steps is_plain capacity allocation_failed gets result
       → IsParse among (parser_rules parser) text named is_plain max_steps (result_of result)
   parse_of_run result bytes is =
       let outcome = outcome_of_run result bytes is in record {

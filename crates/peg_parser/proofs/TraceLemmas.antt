@@ -48,12 +48,12 @@ written-calls rules text start r calls bytes named here visited =
 -- the calls of a run of a parser's program
 pub parser-calls : (among : Option (List ℕ)) (parser : Parser) (text : List ℕ) (start : ℕ) (outcome : Outcome)
     (calls : List RuleCall) → AreBytes text → start < length (parser_rules parser)
-    → IsCoreOutcomeBy among (bodies_of parser.program.core) text start outcome
+    → IsCoreOutcomeBy None among (bodies_of parser.program.core) text start outcome
     → AreVisitedCalls (bodies_of parser.program.core) text start calls
     → AreCallsOf (parser_rules parser) text (name_of (parser_rules parser) start) calls
 parser-calls among parser text start outcome calls bytes less is visited =
     let rules = parser_rules parser in
-    let held = subst (λ (bodies : List CoreForm). IsCoreOutcomeBy among bodies text start outcome) (same-bodies parser) is in
+    let held = subst (λ (bodies : List CoreForm). IsCoreOutcomeBy None among bodies text start outcome) (same-bodies parser) is in
     let r = held.1.0 in
     let named : IsCoreRecord (core_bodies rules) text (core_form rules 0 (Name (name_of rules start) (between 0 0))) 0 r =
     (held.0, ap (λ (rule : ℕ). core_record_in (core_bodies rules) text held.0 (use_of rule) 0) (number-named parser start less) ∙ held.1.1) in

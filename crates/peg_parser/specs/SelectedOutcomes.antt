@@ -8,7 +8,8 @@ use Rattle.peg_parser.specs.Fits.{Fits, FitsAmong}
 
 -- the outcome of a grammar on a text from a start rule by the failed tests that count, in some depth
 abbrev pub IsParseOutcomeBy : (among : Option (List ℕ)) → List Rule → List ℕ → List ℕ → Outcome → Type 0
-IsParseOutcomeBy among rules text start outcome = (n : ℕ) × AnswersBy among (start_record rules text n start) outcome
+IsParseOutcomeBy among rules text start outcome =
+    (n : ℕ) × AnswersBy None among (start_record rules text n start) outcome
 
 -- an outcome whose tree has rule numbers of the grammar, and whose terminals are the grammar's or indices into the list
 abbrev pub FitsBy : (among : Option (List ℕ)) → List Rule → Outcome → Type 0

@@ -44,6 +44,7 @@ pub struct Parser {
     pub ghost code: { program.code ≡ program_code (core_bodies (rules_in grammar)) },
     pub ghost entries: { program.entries ≡ entries_of (core_bodies (rules_in grammar)) },
     pub ghost spans: { program.core.spans ≡ extents_of_terminals (rules_in grammar) },
+    pub ghost all_shown: { program.shown ≡ None },
 }
 
 /// Why a text isn't parsed.

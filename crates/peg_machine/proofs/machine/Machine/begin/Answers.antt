@@ -2,7 +2,6 @@ use Rattle.std.proofs.Common.{◌≡◌, ◌+◌, ◌∷◌, ◌++◌, [], All, 
 use Rattle.std.proofs.lemmas.List.Elements.{All-push}
 use Rattle.peg_memo.specs.StoreState.{with_nodes, StoreState}
 use Rattle.peg_semantics.specs.Record.{RuleCall}
-use Rattle.peg_tree.specs.Rows.{Row, row_of}
 use Rattle.peg_machine.specs.Entries.{Entry, CallEntry, nodes_below}
 use Rattle.peg_machine.specs.RunInvariant.{after_traced_call}
 use Rattle.peg_machine.specs.Machine.{entry_of, state_of, context_of}
@@ -26,10 +25,6 @@ entry-self-requires g c =
     (state_of old store) runs.1 c.requires.here runs.2 in
     rule-within input c.args.rule next.0 next.1
 
--- the node of a new call
-abbrev row_from : (rule start end : ℕ) → Row
-row_from rule start end = record { rule = rule; start = start; end = end; size = 0 }
-
 pub returns-clause-post : goal.returns-clause-post
 returns-clause-post g c = λ trace runs unheld.
     let input = c.args.input in
@@ -45,19 +40,17 @@ returns-clause-post g c = λ trace runs unheld.
     pushed_entry old.stack.items c.push.new.self.items (Frame c.args.rule old.position (old.pc + 1) c.len.result)
     c.in_ok-push.ensures.items
     ∙ ap (λ (n : ℕ). map entry_of old.stack.items ++ CallEntry pair (old.pc + 1) n ∷ []) c.len.ensures.number in
-    let after : g.S.NodeStore.state c.push-2.new.self ≡ with_nodes store (opened store.nodes pair) =
-    c.in_ok-push-2.ensures.state
-    ∙ ap (λ (n : ℕ). with_nodes store (store.nodes ++ row_from c.args.rule n c.new.result.end ∷ [])) c.new.ensures.start
-    ∙ ap (λ (n : ℕ). with_nodes store (store.nodes ++ row_from c.args.rule old.position n ∷ [])) c.new.ensures.end in
+    let after : g.S.NodeStore.state c.open_node.new.store ≡ with_nodes store (opened context.shown store.nodes pair) =
+    c.in_ok-open_node.ensures.state in
     inl (subst
     (λ (at : ℕ). IsActive context (after_traced_call pair trace)
-    (RunsAt at old.position (g.S.NodeStore.state c.push-2.new.self).nodes)
-    (record (state_of old (g.S.NodeStore.state c.push-2.new.self)) { entries = map entry_of c.push.new.self.items }))
+    (RunsAt at old.position (g.S.NodeStore.state c.open_node.new.store).nodes)
+    (record (state_of old (g.S.NodeStore.state c.open_node.new.store)) { entries = map entry_of c.push.new.self.items }))
     entry
     (subst
     (λ (entries : List Entry). IsActive context (after_traced_call pair trace)
-    (RunsAt next.0 old.position (g.S.NodeStore.state c.push-2.new.self).nodes)
-    (record (state_of old (g.S.NodeStore.state c.push-2.new.self)) { entries = entries }))
+    (RunsAt next.0 old.position (g.S.NodeStore.state c.open_node.new.store).nodes)
+    (record (state_of old (g.S.NodeStore.state c.open_node.new.store)) { entries = entries }))
     (sym entries)
     (subst
     (λ (store : StoreState). IsActive context (after_traced_call pair trace) (RunsAt next.0 old.position store.nodes)
@@ -72,7 +65,7 @@ returns-clause-cuts g c =
     let old = c.args.self.now in
     let last = Frame c.args.rule old.position (old.pc + 1) c.len.result in
     let Cut : Entry → Type 0 = λ entry. g.S.NodeStore.cuts c.args.store.now (nodes_below entry) in
-    cuts-same (g.S.NodeStore.cuts c.args.store.now) (g.S.NodeStore.cuts c.push-2.new.self) c.in_ok-push-2.ensures.cuts
+    cuts-same (g.S.NodeStore.cuts c.args.store.now) (g.S.NodeStore.cuts c.open_node.new.store) c.in_ok-open_node.ensures.cuts
     (map entry_of c.push.new.self.items)
     (subst (All Cut)
     (sym (pushed_entry old.stack.items c.push.new.self.items last c.in_ok-push.ensures.items))

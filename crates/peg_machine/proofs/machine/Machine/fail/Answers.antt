@@ -1,6 +1,6 @@
-use Rattle.std.proofs.Common.{◌≡◌, ◌∷◌, ◌++◌, [], All, List, ◌⊎◌, inl, inr, option_map, take, map, sym, ◌∙◌, ap, subst, append-nil}
+use Rattle.std.proofs.Common.{◌≡◌, ◌∷◌, ◌++◌, [], All, List, ◌⊎◌, inl, inr, option_map, map, sym, ◌∙◌, ap, subst, append-nil}
 use Rattle.peg_machine.specs.Entries.{Entry, nodes_below, CountsAscend}
-use Rattle.peg_machine.specs.Machine.{entry_of, state_of, AreCuts}
+use Rattle.peg_machine.specs.Machine.{entry_of, state_of}
 use Rattle.peg_machine.specs.MachineStates.{BeginWithACall, HasFailed, IsAt, IsActive}
 use Rattle.peg_memo.specs.StoreState.{StoreState}
 use Rattle.peg_machine.specs.PartialRuns.{RunsAt, Backtracks}
@@ -10,7 +10,6 @@ use Rattle.peg_machine.proofs.CutLemmas.{All-front, All-last, cuts-same, cuts-up
 use Rattle.peg_machine.proofs.EntryLemmas.{CountsAscend-pop}
 use Rattle.peg_machine.proofs.MachineLemmas.{no_entry_left, popped_entries, pushed_entry}
 use Rattle.peg_machine.proofs.StateEnds.{falls_back, falls_through}
-use Rattle.peg_machine.proofs.machine.Machine.fail.Given.{Over}
 use Rattle.peg_machine.proofs.machine.Machine.fail.Goals as goal
 
 pub truncate-requires : goal.truncate-requires

@@ -1,4 +1,4 @@
-use Rattle.std.proofs.Common.{ℕ, ◌-◌, length, arith, rules, ap, ◌∙◌}
+use Rattle.std.proofs.Common.{ℕ, ◌-◌, length, arith, ap, ◌∙◌}
 use Rattle.std.proofs.lemmas.List.{length_push}
 use Rattle.peg_bytes.specs.declared.span.Span.{Span}
 use Rattle.peg_tree.specs.Rows.{Row}

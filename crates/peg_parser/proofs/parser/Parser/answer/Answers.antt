@@ -1,4 +1,4 @@
-use Rattle.std.proofs.Common.{◌<◌, ◌∙◌, Result, Ok, Err, ap, arith, subst}
+use Rattle.std.proofs.Common.{◌<◌, ◌∙◌, Bool, List, Option, None, Result, Ok, Err, ap, arith, subst}
 use Rattle.std.proofs.lemmas.List.Elements.{All-from_get_or}
 use Rattle.peg_core.specs.Layout.{bodies_of}
 use Rattle.peg_machine.specs.declared.answer.Answer.{Answer}
@@ -10,7 +10,39 @@ use Rattle.peg_machine.specs.Traced.{GetsCalls, Traces}
 use Rattle.peg_parser.proofs.CoreStarts.{length-bodies}
 use Rattle.peg_parser.proofs.ParseLemmas.{parse_of_run}
 use Rattle.peg_parser.proofs.TraceLemmas.{parser-calls, parser-calls-in-order, parser-calls-so-far, parser-first-calls, parser-steps}
+use Rattle.peg_parser.proofs.parser.Parser.answer.Given.{Over}
 use Rattle.peg_parser.proofs.parser.Parser.answer.Goals as goal
+use Rattle.peg_parser.proofs.parser.Parser.answer.Goals.{After-run_in_store, In-Ok}
+
+-- the run shows all rules
+run_shown : (g : Over) (c : After-run_in_store g)
+    → IsRun None (listed c.args.among) (bodies_of c.args.self.now.program.core)
+    c.args.text.now c.args.start c.args.max_steps (NeverStores (λ any. (g.S.NodeStore.state any).memo.entries))
+    (g.S.NodeStore.state c.args.store.now).memo.capacity
+    (g.S.NodeStore.state c.run_in_store.new.store).memo.allocation_failed
+    (GetsCalls g.W.Watch.records g.W.Watch.traced c.args.watch.now c.run_in_store.new.watch) c.run_in_store.result
+run_shown g c =
+    subst (λ (shown : Option (List Bool)). IsRun shown (listed c.args.among) (bodies_of c.args.self.now.program.core)
+    c.args.text.now c.args.start c.args.max_steps (NeverStores (λ any. (g.S.NodeStore.state any).memo.entries))
+    (g.S.NodeStore.state c.args.store.now).memo.capacity
+    (g.S.NodeStore.state c.run_in_store.new.store).memo.allocation_failed
+    (GetsCalls g.W.Watch.records g.W.Watch.traced c.args.watch.now c.run_in_store.new.watch) c.run_in_store.result)
+    c.args.self.now.all_shown c.run_in_store.ensures.run
+
+-- so has one with an answer
+answered : (g : Over) (c : In-Ok g)
+    → IsRun None (listed c.args.among) (bodies_of c.args.self.now.program.core)
+    c.args.text.now c.args.start c.args.max_steps (NeverStores (λ any. (g.S.NodeStore.state any).memo.entries))
+    (g.S.NodeStore.state c.args.store.now).memo.capacity
+    (g.S.NodeStore.state c.run_in_store.new.store).memo.allocation_failed
+    (GetsCalls g.W.Watch.records g.W.Watch.traced c.args.watch.now c.run_in_store.new.watch) (Ok c.in-Ok.answer)
+answered g c =
+    subst (λ (shown : Option (List Bool)). IsRun shown (listed c.args.among) (bodies_of c.args.self.now.program.core)
+    c.args.text.now c.args.start c.args.max_steps (NeverStores (λ any. (g.S.NodeStore.state any).memo.entries))
+    (g.S.NodeStore.state c.args.store.now).memo.capacity
+    (g.S.NodeStore.state c.run_in_store.new.store).memo.allocation_failed
+    (GetsCalls g.W.Watch.records g.W.Watch.traced c.args.watch.now c.run_in_store.new.watch) (Ok c.in-Ok.answer))
+    c.args.self.now.all_shown c.in-Ok.ensures.run
 
 pub run_in_store-requires-clause-rule : goal.run_in_store-requires-clause-rule
 run_in_store-requires-clause-rule g c = omega (arith, c.requires.start, length-bodies c.args.self.now)
@@ -25,7 +57,7 @@ returns-in-Ok-clause-parse g c named found =
     (GetsCalls g.W.Watch.records g.W.Watch.traced c.args.watch.now c.run_in_store.new.watch) c.requires.start found
     (Ok c.in-Ok.answer)
     (All-from_get_or (λ byte. byte < 256) c.args.text.now 0 (λ i within. (c.type_inv.text i).fits))
-    c.in-Ok.ensures.run
+    (answered g (goal.at.returns-in-Ok-clause-parse g c).In-Ok)
 
 pub returns-in-Err-TextTooLong-clause-parse : goal.returns-in-Err-TextTooLong-clause-parse
 returns-in-Err-TextTooLong-clause-parse g c named found =
@@ -35,11 +67,12 @@ returns-in-Err-TextTooLong-clause-parse g c named found =
     (GetsCalls g.W.Watch.records g.W.Watch.traced c.args.watch.now c.run_in_store.new.watch) c.requires.start found
     (Err run.TextTooLong)
     (All-from_get_or (λ byte. byte < 256) c.args.text.now 0 (λ i within. (c.type_inv.text i).fits))
-    (subst (λ (result : Result Answer RunFault). IsRun (listed c.args.among) (bodies_of c.args.self.now.program.core)
+    (subst (λ (result : Result Answer RunFault). IsRun None (listed c.args.among) (bodies_of c.args.self.now.program.core)
     c.args.text.now c.args.start c.args.max_steps (NeverStores (λ any. (g.S.NodeStore.state any).memo.entries)) (g.S.NodeStore.state c.args.store.now).memo.capacity
     (g.S.NodeStore.state c.run_in_store.new.store).memo.allocation_failed
     (GetsCalls g.W.Watch.records g.W.Watch.traced c.args.watch.now c.run_in_store.new.watch) result)
-    (c.in-Err-TextTooLong.is ∙ ap Err c.in-Err-TextTooLong.field-0-is) c.run_in_store.ensures.run)
+    (c.in-Err-TextTooLong.is ∙ ap Err c.in-Err-TextTooLong.field-0-is)
+    (run_shown g (goal.at.returns-in-Err-TextTooLong-clause-parse g c).After-run_in_store))
 
 pub returns-in-Err-StepLimit-clause-parse : goal.returns-in-Err-StepLimit-clause-parse
 returns-in-Err-StepLimit-clause-parse g c named found =
@@ -49,11 +82,12 @@ returns-in-Err-StepLimit-clause-parse g c named found =
     (GetsCalls g.W.Watch.records g.W.Watch.traced c.args.watch.now c.run_in_store.new.watch) c.requires.start found
     (Err run.StepLimit)
     (All-from_get_or (λ byte. byte < 256) c.args.text.now 0 (λ i within. (c.type_inv.text i).fits))
-    (subst (λ (result : Result Answer RunFault). IsRun (listed c.args.among) (bodies_of c.args.self.now.program.core)
+    (subst (λ (result : Result Answer RunFault). IsRun None (listed c.args.among) (bodies_of c.args.self.now.program.core)
     c.args.text.now c.args.start c.args.max_steps (NeverStores (λ any. (g.S.NodeStore.state any).memo.entries)) (g.S.NodeStore.state c.args.store.now).memo.capacity
     (g.S.NodeStore.state c.run_in_store.new.store).memo.allocation_failed
     (GetsCalls g.W.Watch.records g.W.Watch.traced c.args.watch.now c.run_in_store.new.watch) result)
-    (c.in-Err-StepLimit.is ∙ ap Err c.in-Err-StepLimit.field-0-is) c.run_in_store.ensures.run)
+    (c.in-Err-StepLimit.is ∙ ap Err c.in-Err-StepLimit.field-0-is)
+    (run_shown g (goal.at.returns-in-Err-StepLimit-clause-parse g c).After-run_in_store))
 
 pub returns-in-Err-Memory-clause-parse : goal.returns-in-Err-Memory-clause-parse
 returns-in-Err-Memory-clause-parse g c named found =
@@ -63,11 +97,12 @@ returns-in-Err-Memory-clause-parse g c named found =
     (GetsCalls g.W.Watch.records g.W.Watch.traced c.args.watch.now c.run_in_store.new.watch) c.requires.start found
     (Err run.Memory)
     (All-from_get_or (λ byte. byte < 256) c.args.text.now 0 (λ i within. (c.type_inv.text i).fits))
-    (subst (λ (result : Result Answer RunFault). IsRun (listed c.args.among) (bodies_of c.args.self.now.program.core)
+    (subst (λ (result : Result Answer RunFault). IsRun None (listed c.args.among) (bodies_of c.args.self.now.program.core)
     c.args.text.now c.args.start c.args.max_steps (NeverStores (λ any. (g.S.NodeStore.state any).memo.entries)) (g.S.NodeStore.state c.args.store.now).memo.capacity
     (g.S.NodeStore.state c.run_in_store.new.store).memo.allocation_failed
     (GetsCalls g.W.Watch.records g.W.Watch.traced c.args.watch.now c.run_in_store.new.watch) result)
-    (c.in-Err-Memory.is ∙ ap Err c.in-Err-Memory.field-0-is) c.run_in_store.ensures.run)
+    (c.in-Err-Memory.is ∙ ap Err c.in-Err-Memory.field-0-is)
+    (run_shown g (goal.at.returns-in-Err-Memory-clause-parse g c).After-run_in_store))
 
 -- ---- the calls
 
@@ -80,7 +115,8 @@ returns-in-Ok-clause-traced g c =
         of_record = parser-calls (listed c.args.among) c.args.self.now c.args.text.now c.args.start
             c.in-Ok.answer.outcome traced.0
             (All-from_get_or (λ byte. byte < 256) c.args.text.now 0 (λ i within. (c.type_inv.text i).fits))
-            c.requires.start c.in-Ok.ensures.run.outcome traced.2.visited;
+            c.requires.start
+            (answered g (goal.at.returns-in-Ok-clause-traced g c).In-Ok).outcome traced.2.visited;
         steps = parser-steps c.args.self.now c.args.text.now c.args.start
             (g.S.NodeStore.state c.args.store.now).memo.capacity
             (g.S.NodeStore.state c.run_in_store.new.store).memo.allocation_failed c.in-Ok.answer traced.0 traced.2;
