@@ -14,7 +14,7 @@ from reference import FAILS, NOTHING, SPACING, Expr, Grammar, Reader, expression
 # The kinds in the order of the two tables of LINT.md.
 PROVED = ("UnusedRule", "NeverMatches", "NeverTried", "AlwaysFails", "NoEffect", "SameAlternative", "Shadowed",
           "NeverStops", "ReversedRange")
-HABITS = ("EmptyAlternative", "AnyAtEnd", "ClassBeginsWithCaret", "ClassEndsInRange", "HoldsLineEnd",
+HABITS = ("EmptyAlternative", "AnyAtEnd", "ClassBeginsWithCaret", "ClassEndsInRange", "RangeOverSigns", "HoldsLineEnd",
           "HighBytesInClass", "BlanksInClass")
 KINDS = PROVED + HABITS
 MAY_BE_MISSED = frozenset({"SameAlternative", "Shadowed", "NeverStops"})
@@ -132,6 +132,8 @@ class Finder:
                 yield Part("ReversedRange", start, end)
             if self.file[start:end].endswith(b"-]"):
                 yield Part("ClassEndsInRange", start, end)
+            if re.fullmatch(rb"[0-9]-[A-Za-z]|[A-Z]-[a-z]|[\x22-,]-[./]", self.file[start:end]):
+                yield Part("RangeOverSigns", start, end)
 
     def ranges(self, expr: Expr):
         """The span, the first and the last byte of each range of a class. A range is tried before a single byte."""

@@ -11,7 +11,8 @@ WORDS = ["", "a", "a", "a", "b", "b", "c", "c", "ab", "bc", "ca"]
 # What a literal or a class may have beside letters. A character over 127 stands for one byte of the file.
 ODD_IN_LITERALS = ["\n", "\r", "\r\n", "\xc3\xa9", "[^a]", " a ", "z-a", "//", ".", "#", r"\n", r"\x62", r"\'", r"\141"]
 ODD_IN_CLASSES = ["\n", "\r\n", "\xc3\xa9", "\xff", "^", " ", "'", "/", r"\n", r"\]", r"\x62", "a-]", "+-]", "--]",
-                  r"+-\]", r"c-\x61", r"\141-c", r"\x63-\142", "\x80-\xff", "\xe9-a", "a-c-"]
+                  r"+-\]", r"c-\x61", r"\141-c", r"\x63-\142", "\x80-\xff", "\xe9-a", "a-c-", "A-c", "0-b",
+                  "+-.", "!-/", r"\53-."]
 OPERATORS = ["?", "?", "*", "+", "{2}", "{0,2}", "{0,1}", "{1,2}"]
 
 

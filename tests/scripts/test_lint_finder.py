@@ -53,6 +53,8 @@ class Kinds(unittest.TestCase):
         self.assertEqual(found(b"S <- [z-a] 'x'"), [("NeverMatches", 5, 14), ("ReversedRange", 6, 9)])
         self.assertEqual(found(b"S <- [+-]]"), [("ClassEndsInRange", 6, 9)])
         self.assertEqual(found(rb"S <- [+-\]] [\x41-\101]"), [])
+        self.assertEqual(found(b"S <- [A-z_] [0-9a-fA-F]"), [("RangeOverSigns", 6, 9)])
+        self.assertEqual(found(b"S <- [0-9+-.] [!-/]"), [("RangeOverSigns", 9, 12)])
 
     def test_bytes_of_classes_and_literals(self) -> None:
         self.assertEqual(found(b"Text <- [^x]+\n"), [("ClassBeginsWithCaret", 8, 12)])

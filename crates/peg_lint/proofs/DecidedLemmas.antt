@@ -57,6 +57,7 @@ module _ (rules : List Rule) (start : ℕ) (l0 l1 : List Warning) (all : FindsRu
   decided-found kind.AnyAtEnd number span by is = absurd is
   decided-found kind.ClassBeginsWithCaret number span by is = absurd is
   decided-found kind.ClassEndsInRange number span by is = absurd is
+  decided-found kind.RangeOverSigns number span by is = absurd is
   decided-found kind.HoldsLineEnd number span by is = absurd is
   decided-found kind.HighBytesInClass number span by is = absurd is
   decided-found kind.BlanksInClass number span by is = absurd is

@@ -148,6 +148,7 @@ module _ (one two : List Warning) (keeps : Keeps one two) where
   FindsRanges-later file number class finds = record {
     reversed = λ span is. HasWarning-later kind.ReversedRange number span None (finds.reversed span is);
     to_bracket = λ span is. HasWarning-later kind.ClassEndsInRange number span None (finds.to_bracket span is);
+    over_signs = λ span is. HasWarning-later kind.RangeOverSigns number span None (finds.over_signs span is);
   }
 
   pub FindsText-later : (file : List ℕ) (number : ℕ) (e : Form) → FindsText file number one e

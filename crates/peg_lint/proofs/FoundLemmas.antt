@@ -1,15 +1,13 @@
 -- From what is found of each rule's text to what is found of the file.
 use Rattle.std.proofs.Common.{◌≡◌, ◌<◌, inl, inr, ℕ, zero, suc, Bool, true, false, IsTrue, cond, List, [], ◌∷◌, Contains, filter, length, None, Option, refl, sym, ap, ◌∙◌, subst, arith}
 use Rattle.std.proofs.lemmas.List.Elements.{All-contains, Contains-append_right}
-use Rattle.std.proofs.lemmas.List.Sorted.{Contains-permutation}
-use Rattle.std.specs.List.Sorted.{IsPermutation}
 use Rattle.peg_bytes.specs.Extent.{Extent}
 use Rattle.peg_semantics.specs.Form.{Class, Form, Literal}
 use Rattle.peg_semantics.specs.Rules.{Rule}
 use Rattle.peg_semantics.specs.WellFormed.{subexpressions}
 use Rattle.peg_lint.specs.FileWarnings.{FindsAll, SaysOfFile, is_selected, selects}
 use Rattle.peg_lint.specs.Habits.{begins_with_caret, has_blanks_around, holds_high_byte, text_in}
-use Rattle.peg_lint.specs.Linting.{FindsInFile, FindsText, Keeps}
+use Rattle.peg_lint.specs.Linting.{FindsInFile, FindsText, HaveSameWarnings, Keeps}
 use Rattle.peg_lint.specs.Warnings.{Decides, FindsDecided, HasWarning, IsPartOfRule}
 use Rattle.peg_lint.specs.declared.warning.Selection.{Selection}
 use Rattle.peg_lint.specs.declared.warning.Selection.TheVariants as selection
@@ -90,6 +88,8 @@ module _ (file : List ℕ) (rules : List Rule) (found : List Warning) (all : Fin
       ((text-of number (Class is.0 is.1) is.2).class is.0 is.1 refl is.3).0.caret is.4.0 is.4.1
   says-found kind.ClassEndsInRange number span is =
       ((text-of number (Class is.0 is.1) is.2).class is.0 is.1 refl is.3).1.to_bracket span is.4
+  says-found kind.RangeOverSigns number span is =
+      ((text-of number (Class is.0 is.1) is.2).class is.0 is.1 refl is.3).1.over_signs span is.4
   says-found kind.HoldsLineEnd number span is =
       elim is.0 [
         | inl literal ↦ (text-of number (Literal literal.0 span) literal.1).literal literal.0 span refl is.1 is.2
@@ -121,6 +121,7 @@ decided-reported selection.Proved rules start kind.EmptyAlternative number span 
 decided-reported selection.Proved rules start kind.AnyAtEnd number span by is = absurd is
 decided-reported selection.Proved rules start kind.ClassBeginsWithCaret number span by is = absurd is
 decided-reported selection.Proved rules start kind.ClassEndsInRange number span by is = absurd is
+decided-reported selection.Proved rules start kind.RangeOverSigns number span by is = absurd is
 decided-reported selection.Proved rules start kind.HoldsLineEnd number span by is = absurd is
 decided-reported selection.Proved rules start kind.HighBytesInClass number span by is = absurd is
 decided-reported selection.Proved rules start kind.BlanksInClass number span by is = absurd is
@@ -128,7 +129,7 @@ decided-reported selection.Proved rules start kind.BlanksInClass number span by 
 -- what was found, selected and sorted
 pub FindsAll-sorted : (file : List ℕ) (rules : List Rule) (start : ℕ) (selection : Selection)
     (l0 l1 l2 l3 : List Warning) → FindsDecided rules start l0 → Keeps l0 l1 → FindsInFile file rules l1
-    → l2 ≡ filter (is_selected selection) l1 → IsPermutation l2 l3 → FindsAll file rules start selection l3
+    → l2 ≡ filter (is_selected selection) l1 → HaveSameWarnings l2 l3 → FindsAll file rules start selection l3
 FindsAll-sorted file rules start selection l0 l1 l2 l3 decided keeps all chosen sorted = record {
   decided = λ what number span by is.
       last what number span by (decided-reported selection rules start what number span by is)
@@ -139,6 +140,6 @@ FindsAll-sorted file rules start selection l0 l1 l2 l3 decided keeps all chosen 
     last : (what : WarningKind) (number : ℕ) (span : Extent) (by : Option Extent) → IsTrue (selects selection what)
         → HasWarning l1 what number span by → HasWarning l3 what number span by
     last what number span by h has =
-        HasWarning-later l2 l3 (λ w in_it. Contains-permutation l2 l3 w sorted in_it) what number span by
+        HasWarning-later l2 l3 sorted.0 what number span by
         (subst (λ l. HasWarning l what number span by) (sym chosen)
         (HasWarning-selected selection l1 what number span by h has))

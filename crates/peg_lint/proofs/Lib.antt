@@ -8,6 +8,7 @@ mod FoundLemmas
 mod HeadLemmas
 mod NeverLemmas
 mod OperatorLemmas
+mod OrderLemmas
 mod OutcomeLemmas
 mod PartLemmas
 mod RangeLemmas

@@ -1,17 +1,18 @@
 -- The ranges of a class, one after another.
-use Rattle.std.proofs.Common.{◌≡◌, ◌+◌, ◌<◌, ◌≤◌, ◌⊎◌, inl, inr, ℕ, IsTrue, List, [], ◌∷◌, None, Some, refl, sym, ap, ◌∙◌, subst, arith}
+use Rattle.std.proofs.Common.{◌≡◌, ◌+◌, ◌<◌, ◌≤◌, ◌⊎◌, inl, inr, ℕ, Bool, IsTrue, List, [], ◌∷◌, None, Some, nat_lt, refl, sym, ap, ◌∙◌, subst, arith}
 use Rattle.peg_lexer.specs.Matchers.{PrefixMatch}
 use Rattle.peg_bytes.specs.Extent.{Extent, between}
 use Rattle.peg_metagrammar.specs.Denotation.{Bytes}
 use Rattle.peg_metagrammar.specs.Ranges.{Range, range}
-use Rattle.peg_lint.specs.Habits.{ends_in_bracket, text_in}
-use Rattle.peg_lint.specs.Linting.{FindsRanges, FindsRangesBefore, Keeps}
+use Rattle.peg_lint.specs.FileWarnings.{IsRangeText}
+use Rattle.peg_lint.specs.Habits.{ends_in_bracket, goes_over_signs, text_in}
+use Rattle.peg_lint.specs.Linting.{FindsIf, FindsRange, FindsRanges, FindsRangesBefore, Keeps}
 use Rattle.peg_lint.specs.Spelling.{IsRangeAt, IsRangeOfClass, RangesBetween, none, one_more, range_match}
 use Rattle.peg_lint.specs.Warnings.{HasWarning}
 use Rattle.peg_lint.specs.declared.warning.Warning.{Warning}
 use Rattle.peg_lint.specs.declared.warning.WarningKind.{WarningKind}
 use Rattle.peg_lint.specs.declared.warning.WarningKind.TheVariants as kind
-use Rattle.peg_lint.proofs.FileLemmas.{HasWarning-later}
+use Rattle.peg_lint.proofs.FileLemmas.{HasWarning-later, less-true}
 
 module _ (file : List ℕ) where
   -- ranges lead onward
@@ -100,48 +101,50 @@ module _ (file : List ℕ) where
   -- ---- the warnings about the ranges
 
   -- the warnings about one more range are found
-  pub FindsRangesBefore-next : (number : ℕ) (class : Extent) (at length low high : ℕ) (l0 l1 l2 : List Warning)
-      → IsRangeAt file at length (range low high) → Keeps l0 l1 → Keeps l1 l2
-      → (high < low → HasWarning l1 kind.ReversedRange number (between at (at + length)) None)
-      → (IsTrue (ends_in_bracket (text_in file (between at (at + length))))
-      → HasWarning l2 kind.ClassEndsInRange number (between at (at + length)) None)
-      → FindsRangesBefore file number class at l0 → FindsRangesBefore file number class (at + length) l2
-  FindsRangesBefore-next number class at length low high l0 l1 l2 read first second reversed to_bracket finds = record {
+  pub FindsRangesBefore-next : (number : ℕ) (class : Extent) (at length : ℕ) (bytes : Range) (l0 l1 : List Warning)
+      → IsRangeAt file at length bytes → Keeps l0 l1 → FindsRange file number (between at (at + length)) bytes l1
+      → FindsRangesBefore file number class at l0 → FindsRangesBefore file number class (at + length) l1
+  FindsRangesBefore-next number class at length bytes l0 l1 read keeps here finds = record {
     reversed = λ span is.
         elim (finds.reversed span is) [
-          | inl has ↦ inl (both kind.ReversedRange span has)
+          | inl has ↦ inl (later kind.ReversedRange span has)
           | inr leads ↦
-              elim (this-or-later class at length (range low high) read span (range is.0 is.1) is.2 leads) [
+              elim (this-or-later class at length bytes read span (range is.0 is.1) is.2 leads) [
                 | inl this ↦
-                    let down : high < low = this-less (range is.0 is.1) this.1 is.3 in
-                    inl (subst (λ s. HasWarning l2 kind.ReversedRange number s None) (sym this.0)
-                    (HasWarning-later l1 l2 second kind.ReversedRange number (between at (at + length)) None (reversed down)))
-                | inr later ↦ inr later
+                    inl (subst (λ s. HasWarning l1 kind.ReversedRange number s None) (sym this.0)
+                    (here.reversed (this-less (range is.0 is.1) this.1 is.3)))
+                | inr after ↦ inr after
               ]
         ];
-    to_bracket = λ span is.
-        elim (finds.to_bracket span is) [
-          | inl has ↦ inl (both kind.ClassEndsInRange span has)
-          | inr leads ↦
-              elim (this-or-later class at length (range low high) read span is.0 is.1 leads) [
-                | inl this ↦
-                    inl (subst (λ s. HasWarning l2 kind.ClassEndsInRange number s None) (sym this.0)
-                    (to_bracket (subst (λ s. IsTrue (ends_in_bracket (text_in file s))) this.0 is.2)))
-                | inr later ↦ inr later
-              ]
-        ];
+    to_bracket = of_text ends_in_bracket kind.ClassEndsInRange here.to_bracket finds.to_bracket;
+    over_signs = of_text goes_over_signs kind.RangeOverSigns here.over_signs finds.over_signs;
   }
     where
-      both : (what : WarningKind) (span : Extent) → HasWarning l0 what number span None
-          → HasWarning l2 what number span None
-      both what span has =
-          HasWarning-later l1 l2 second what number span None (HasWarning-later l0 l1 first what number span None has)
+      later : (what : WarningKind) (span : Extent) → HasWarning l0 what number span None
+          → HasWarning l1 what number span None
+      later what span has = HasWarning-later l0 l1 keeps what number span None has
 
-      this-less : (these : Range) → these ≡ range low high → these.high < these.low → high < low
+      this-less : (these : Range) → these ≡ bytes → these.high < these.low → IsTrue (nat_lt bytes.high bytes.low)
       this-less these same h =
-          let a = ap (λ (r : Range). r.low) same in
-          let b = ap (λ (r : Range). r.high) same in
-          omega (arith, a, b, h)
+          subst (λ (r : Range). IsTrue (nat_lt r.high r.low)) same (less-true these.high these.low h)
+
+      of_text : (test : List ℕ → Bool) (what : WarningKind)
+          → FindsIf (test (text_in file (between at (at + length)))) what number (between at (at + length)) l1
+          → ((span : Extent) → IsRangeText test file class span
+          → HasWarning l0 what number span None ⊎ RangesBetween file at span.start)
+          → (span : Extent) → IsRangeText test file class span
+          → HasWarning l1 what number span None ⊎ RangesBetween file (at + length) span.start
+      of_text test what found before span is =
+          elim (before span is) [
+            | inl has ↦ inl (later what span has)
+            | inr leads ↦
+                elim (this-or-later class at length bytes read span is.0 is.1 leads) [
+                  | inl this ↦
+                      inl (subst (λ s. HasWarning l1 what number s None) (sym this.0)
+                      (found (subst (λ s. IsTrue (test (text_in file s))) this.0 is.2)))
+                  | inr after ↦ inr after
+                ]
+          ]
 
   -- all ranges are found where no more begins
   pub FindsRanges-all : (number : ℕ) (class : Extent) (at : ℕ) (found : List Warning)
@@ -158,6 +161,11 @@ module _ (file : List ℕ) where
           | inl has ↦ has
           | inr leads ↦ absurd (no-more class at none_fits span is.0 is.1 leads)
         ];
+    over_signs = λ span is.
+        elim (finds.over_signs span is) [
+          | inl has ↦ has
+          | inr leads ↦ absurd (no-more class at none_fits span is.0 is.1 leads)
+        ];
   }
 
   -- a class without an inside has no warning about ranges
@@ -166,4 +174,5 @@ module _ (file : List ℕ) where
   FindsRanges-none number class found short = record {
     reversed = λ span is. absurd (no-inside class span (range is.0 is.1) short is.2);
     to_bracket = λ span is. absurd (no-inside class span is.0 short is.1);
+    over_signs = λ span is. absurd (no-inside class span is.0 short is.1);
   }

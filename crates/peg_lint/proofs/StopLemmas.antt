@@ -9,9 +9,8 @@ use Rattle.peg_semantics.specs.Form.{End, Then, forms, terminals}
 use Rattle.peg_semantics.specs.Record.{Recognition, Failed, Matched, Record, IsRecord, prepend_trees, recognize_seq, record_in}
 use Rattle.peg_semantics.specs.Rules.{Rule}
 use Rattle.peg_semantics.proofs.ResultSteps.{rounds_cases, then_cases}
-use Rattle.peg_lint.specs.Linting.{IsRepeatOf}
-use Rattle.peg_lint.specs.Warnings.{FollowsIn}
-use Rattle.peg_lint.specs.Never.{FailsWhere, NeverMatches}
+use Rattle.peg_lint.specs.Warnings.{FollowsIn, IsRepeatOf}
+use Rattle.peg_lint.specs.Never.{FailsAfter, FailsWhere, NeverMatches}
 
 -- no result is both a failure and a match
 not_both : (x : Recognition) (end : ℕ) (trees : Trees) → x ≡ Failed → x ≡ Matched end trees → ⊥
@@ -118,6 +117,13 @@ unfolding record_in
 never-stops rules items span repeat next part follows is fails text terminal position r (zero, at) = cc
 never-stops rules items span repeat next part follows is fails text terminal position r (suc n, at) =
     stuck-seq rules text n items repeat next part terminal position r follows is fails at
+
+-- the item fails wherever the repetition ends
+pub fails-after : (rules : List Rule) (repeat next part : Form) → IsRepeatOf repeat part → FailsWhere rules part next
+    → FailsAfter rules repeat next
+fails-after rules repeat next part is fails text terminal number position end trees r s (n, at) matched tested =
+    let stops = repeat-ends rules text n repeat part terminal position r is at end trees matched in
+    fails text terminal number end stops.0 s stops.1 tested stops.2
 
 -- items at neighbouring indexes follow each other
 pub follows : (items : List Expr) (i : ℕ) (one other : Expr) → i + 1 < length items → one ≡ get_or items i one

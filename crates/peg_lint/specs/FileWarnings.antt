@@ -7,8 +7,8 @@ use Rattle.peg_metagrammar.specs.Ranges.{Range}
 use Rattle.peg_semantics.specs.Form.{Form, Forms, Literal, Class, Any, Name, Seq, Choice, Optional, Star, Plus, Counted}
 use Rattle.peg_semantics.specs.Form.{And, Not, End, Then}
 use Rattle.peg_semantics.specs.Rules.{Rule}
-use Rattle.peg_lint.specs.Habits.{text_in, begins_with_caret, ends_in_bracket, has_blanks_around, holds_high_byte}
-use Rattle.peg_lint.specs.Habits.{EndsRule, IsWithin, holds_line_end}
+use Rattle.peg_lint.specs.Habits.{text_in, begins_with_caret, ends_in_bracket, goes_over_signs, has_blanks_around}
+use Rattle.peg_lint.specs.Habits.{EndsRule, IsWithin, holds_high_byte, holds_line_end}
 use Rattle.peg_lint.specs.Spelling.{IsRangeOfClass, IsReversedRange}
 use Rattle.peg_lint.specs.Warnings.{FindsDecided, HasWarning, IsLaterAlternative, IsPartOfRule, IsTrueWarning}
 use Rattle.peg_lint.specs.Warnings.{extent_of}
@@ -35,10 +35,10 @@ IsOverLineEnd file rules number span =
     ⊎ ((set : Bytes) × IsPartOfRule rules number (Class set span)))
     × IsWithin file span × IsTrue (holds_line_end (text_in file span))
 
--- the last character of a range of a class is a bracket without a backslash
-abbrev pub IsRangeToBracket : (file : List ℕ) → (class span : Extent) → Type 0
-IsRangeToBracket file class span =
-    (bytes : Range) × IsRangeOfClass file class span bytes × IsTrue (ends_in_bracket (text_in file span))
+-- the text of a range of a class passes a test
+abbrev pub IsRangeText : (List ℕ → Bool) → (file : List ℕ) → (class span : Extent) → Type 0
+IsRangeText test file class span =
+    (bytes : Range) × IsRangeOfClass file class span bytes × IsTrue (test (text_in file span))
 
 -- an empty alternative of a choice, before another one
 abbrev pub IsEmptyAlternative : List Rule → (number : ℕ) → Extent → Type 0
@@ -116,7 +116,9 @@ SaysOfFile kind.EmptyAlternative file rules number span = IsEmptyAlternative rul
 SaysOfFile kind.AnyAtEnd file rules number span = IsDotAtEnd file rules number span
 SaysOfFile kind.ClassBeginsWithCaret file rules number span = IsClassText begins_with_caret file rules number span
 SaysOfFile kind.ClassEndsInRange file rules number span =
-    IsClassWith file rules number (λ class. IsRangeToBracket file class span)
+    IsClassWith file rules number (λ class. IsRangeText ends_in_bracket file class span)
+SaysOfFile kind.RangeOverSigns file rules number span =
+    IsClassWith file rules number (λ class. IsRangeText goes_over_signs file class span)
 SaysOfFile kind.HoldsLineEnd file rules number span = IsOverLineEnd file rules number span
 SaysOfFile kind.HighBytesInClass file rules number span = IsClassText holds_high_byte file rules number span
 SaysOfFile kind.BlanksInClass file rules number span = IsClassText has_blanks_around file rules number span
@@ -145,6 +147,7 @@ is_proved kind.EmptyAlternative = false
 is_proved kind.AnyAtEnd = false
 is_proved kind.ClassBeginsWithCaret = false
 is_proved kind.ClassEndsInRange = false
+is_proved kind.RangeOverSigns = false
 is_proved kind.HoldsLineEnd = false
 is_proved kind.HighBytesInClass = false
 is_proved kind.BlanksInClass = false

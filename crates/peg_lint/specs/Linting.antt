@@ -1,25 +1,27 @@
 -- Describes code: what the steps of the linter need and keep.
-use Rattle.std.specs.Prelude.{◌≡◌, ◌⊎◌, ◌<◌, ◌≤◌, ℕ, Bool, true, false, IsTrue, List, ◌∷◌, All, Contains, None, Some}
-use Rattle.std.specs.Prelude.{length, slice_get}
-use Rattle.std.specs.Prelude.{slice_index_or}
+use Rattle.std.specs.Prelude.{◌≡◌, ◌⊎◌, ◌<◌, ◌≤◌, ℕ, Bool, true, false, IsTrue, List, [], ◌∷◌, All, Contains, None, Some}
+use Rattle.std.specs.Prelude.{Option, length, slice_get}
+use Rattle.std.specs.Prelude.{nat_lt, slice_index_or}
+use Rattle.peg_metagrammar.specs.Ranges.{Range}
 use Rattle.peg_bytes.specs.ByteSet.{Bytes}
 use Rattle.peg_bytes.specs.Extent.{Extent}
+use Rattle.peg_bytes.specs.declared.span.Span.{Span}
 use Rattle.peg_semantics.specs.AbstractOutcomes.{Can, no_outcome}
 use Rattle.peg_semantics.specs.Form.{Form, Forms, Literal, Class, Any, Name, Seq, Choice, Optional, Star, Plus, Counted}
 use Rattle.peg_semantics.specs.Form.{And, Not, End}
 use Rattle.peg_semantics.specs.RuleOutcomes.{IsAbstractOutcome}
 use Rattle.peg_semantics.specs.Rules.{Rule}
 use Rattle.peg_semantics.specs.WellFormed.{subexpressions, below_all}
-use Rattle.peg_lint.specs.FileWarnings.{IsDotAtEnd, IsRangeToBracket, IsTrueWarningIn}
-use Rattle.peg_lint.specs.Habits.{IsWithin, begins_with_caret, has_blanks_around, holds_high_byte, holds_line_end}
-use Rattle.peg_lint.specs.Habits.{text_in}
+use Rattle.peg_lint.specs.FileWarnings.{IsDotAtEnd, IsRangeText, IsTrueWarningIn}
+use Rattle.peg_lint.specs.Habits.{IsWithin, begins_with_caret, ends_in_bracket, goes_over_signs, has_blanks_around}
+use Rattle.peg_lint.specs.Habits.{holds_high_byte, holds_line_end, text_in}
 use Rattle.peg_lint.specs.Never.{FailsWhere}
 use Rattle.peg_lint.specs.Outcomes.{AreOutcomes}
 use Rattle.peg_lint.specs.Spelling.{IsReversedRange, RangesBetween}
 use Rattle.peg_lint.specs.Excluded.{CannotMatch}
 use Rattle.peg_lint.specs.Warnings.{HasWarning, IsAmong, IsClassOrPredicate, IsFailingPredicate, IsWithoutUse, IsItemOf}
-use Rattle.peg_lint.specs.Warnings.{IsLaterAlternative}
-use Rattle.peg_lint.specs.Warnings.{IsPartOfRule, IsPlaced, IsTrueWarning, IsUnreached, IsUntriedIn, extent_of}
+use Rattle.peg_lint.specs.Warnings.{IsLaterAlternative, IsRepeatOf}
+use Rattle.peg_lint.specs.Warnings.{IsPartOfRule, IsPlaced, IsTrueWarning, IsUnreached, IsUntriedIn, extent_of, rank_of}
 use Rattle.peg_lint.specs.declared.warning.Warning.{Warning}
 use Rattle.peg_lint.specs.declared.warning.WarningKind.{WarningKind}
 use Rattle.peg_lint.specs.declared.warning.WarningKind.TheVariants as kind
@@ -39,6 +41,20 @@ AreAllPlaced rules number items = (item : Form) → IsAmong items item → IsPla
 -- what is in the earlier list is in the later one
 abbrev pub Keeps : (earlier later : List Warning) → Type 0
 Keeps earlier later = (warning : Warning) → Contains earlier warning → Contains later warning
+
+-- two lists have the same warnings
+abbrev pub HaveSameWarnings : (earlier later : List Warning) → Type 0
+HaveSameWarnings earlier later = Keeps earlier later × Keeps later earlier
+
+-- the numbers of a cause by which warnings are sorted
+abbrev pub cause_key : Option Span → List ℕ
+cause_key None = 0 ∷ 0 ∷ 0 ∷ []
+cause_key (Some span) = 1 ∷ span.start ∷ span.end ∷ []
+
+-- The numbers by which warnings are sorted, the first before the second and so on. No two warnings have the same.
+abbrev pub key_of : Warning → List ℕ
+key_of warning =
+    warning.span.start ∷ rank_of warning.kind ∷ warning.span.end ∷ warning.rule ∷ cause_key warning.by
 
 -- A step adds warnings that are true, whatever the start rule, and leaves the earlier ones. In the later list is what
 -- the step has to find.
@@ -72,20 +88,30 @@ pub record FindsWhole (text : List ℕ) (number : ℕ) (span : Extent) (found : 
   pub high : FindsIf (holds_high_byte text) kind.HighBytesInClass number span found
   pub blanks : FindsIf (has_blanks_around text) kind.BlanksInClass number span found
 
+-- the warnings about a range of a class are found
+pub record FindsRange (file : List ℕ) (number : ℕ) (span : Extent) (bytes : Range) (found : List Warning) : Type 0 where
+  pub reversed : FindsIf (nat_lt bytes.high bytes.low) kind.ReversedRange number span found
+  pub to_bracket : FindsIf (ends_in_bracket (text_in file span)) kind.ClassEndsInRange number span found
+  pub over_signs : FindsIf (goes_over_signs (text_in file span)) kind.RangeOverSigns number span found
+
 -- the warnings about the ranges of a class are found
 pub record FindsRanges (file : List ℕ) (number : ℕ) (class : Extent) (found : List Warning) : Type 0 where
   pub reversed : (span : Extent) → IsReversedRange file class span
       → HasWarning found kind.ReversedRange number span None
-  pub to_bracket : (span : Extent) → IsRangeToBracket file class span
+  pub to_bracket : (span : Extent) → IsRangeText ends_in_bracket file class span
       → HasWarning found kind.ClassEndsInRange number span None
+  pub over_signs : (span : Extent) → IsRangeText goes_over_signs file class span
+      → HasWarning found kind.RangeOverSigns number span None
 
 -- the warnings about the ranges of a class are found, but for those that an offset leads to
 pub record FindsRangesBefore (file : List ℕ) (number : ℕ) (class : Extent) (at : ℕ) (found : List Warning) : Type 0
   where
     pub reversed : (span : Extent) → IsReversedRange file class span
         → HasWarning found kind.ReversedRange number span None ⊎ RangesBetween file at span.start
-    pub to_bracket : (span : Extent) → IsRangeToBracket file class span
+    pub to_bracket : (span : Extent) → IsRangeText ends_in_bracket file class span
         → HasWarning found kind.ClassEndsInRange number span None ⊎ RangesBetween file at span.start
+    pub over_signs : (span : Extent) → IsRangeText goes_over_signs file class span
+        → HasWarning found kind.RangeOverSigns number span None ⊎ RangesBetween file at span.start
 
 -- the warnings about a class within the file are found
 abbrev pub FindsClass : (file : List ℕ) → (number : ℕ) → Extent → List Warning → Type 0
@@ -250,21 +276,6 @@ IsTerminal (Not part span) = ⊥
 -- a terminal that an expression begins with: where it fails, the expression fails
 abbrev pub IsHeadOf : List Rule → (head e : Form) → Type 0
 IsHeadOf rules head e = IsTerminal head × FailsWhere rules head e
-
--- a star or a plus, and its part
-abbrev pub IsRepeatOf : Form → (part : Form) → Type 0
-IsRepeatOf (Literal bytes span) part = ⊥
-IsRepeatOf (Class set span) part = ⊥
-IsRepeatOf (Any span) part = ⊥
-IsRepeatOf (Name name span) part = ⊥
-IsRepeatOf (Seq items span) part = ⊥
-IsRepeatOf (Choice first rest span) part = ⊥
-IsRepeatOf (Optional e span) part = ⊥
-IsRepeatOf (Star e span) part = e ≡ part
-IsRepeatOf (Plus e span) part = e ≡ part
-IsRepeatOf (Counted e min max span) part = ⊥
-IsRepeatOf (And e span) part = ⊥
-IsRepeatOf (Not e span) part = ⊥
 
 -- an item that fails wherever the part of the repetition before it fails
 abbrev pub IsStuck : List Rule → (repeat next : Form) → Type 0

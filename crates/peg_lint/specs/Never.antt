@@ -1,6 +1,6 @@
 -- What the records of an expression have in common, on every text and at every position.
 use Rattle.std.specs.Prelude.{◌≡◌, ◌≢◌, ℕ, List}
-use Rattle.peg_tree.specs.Trees.{NoTrees}
+use Rattle.peg_tree.specs.Trees.{NoTrees, Trees}
 use Rattle.peg_semantics.specs.Form.{Form}
 use Rattle.peg_semantics.specs.Record.{Failed, Matched, Record, IsRecord}
 use Rattle.peg_semantics.specs.Rules.{Rule}
@@ -35,3 +35,9 @@ abbrev pub FailsWhere : List Rule → Form → Form → Type 0
 FailsWhere rules e other = (text : List ℕ) (terminal number position : ℕ) (r s : Record)
     → IsRecord rules text e terminal position r → IsRecord rules text other number position s
     → r.result ≡ Failed → s.result ≡ Failed
+
+-- wherever a match of the first expression ends, the second fails
+abbrev pub FailsAfter : List Rule → Form → Form → Type 0
+FailsAfter rules e other = (text : List ℕ) (terminal number position end : ℕ) (trees : Trees) (r s : Record)
+    → IsRecord rules text e terminal position r → r.result ≡ Matched end trees
+    → IsRecord rules text other number end s → s.result ≡ Failed

@@ -1,6 +1,6 @@
 -- What a warning says of a grammar. Each kind is a theorem about Ford's recognition relation (Ford 2004, section 3.3),
 -- for every text and every position.
-use Rattle.std.specs.Prelude.{◌≡◌, ◌≢◌, ◌⊎◌, ℕ, ◌+◌, ◌<◌, ◌≤◌, List, All, Contains, Option, None, Some, length}
+use Rattle.std.specs.Prelude.{◌≡◌, ◌≢◌, ◌⊎◌, ℕ, ◌+◌, ◌<◌, ◌≤◌, List, All, AllPairs, Contains, Option, None, Some, length}
 use Rattle.std.specs.Prelude.{slice_get, slice_index_or, option_map}
 use Rattle.std.specs.List.Sorted.{IsNonDecreasingBy}
 use Rattle.peg_bytes.specs.Extent.{Extent, extent}
@@ -12,7 +12,7 @@ use Rattle.peg_semantics.specs.Rules.{Rule, name_of}
 use Rattle.peg_semantics.specs.WellFormed.{subexpressions}
 use Rattle.peg_lint.specs.Excluded.{CannotFail, CannotMatch}
 use Rattle.peg_lint.specs.Never.{NeverFails, NeverMatches, MatchesNothing, HasRecordsOf}
-use Rattle.peg_lint.specs.Never.{FailsWhere, HaveSameResults}
+use Rattle.peg_lint.specs.Never.{FailsAfter, FailsWhere, HaveSameResults}
 use Rattle.peg_lint.specs.Reaches.{Reaches}
 use Rattle.peg_lint.specs.declared.warning.Warning.{Warning}
 use Rattle.peg_lint.specs.declared.warning.WarningKind.{WarningKind}
@@ -149,13 +149,36 @@ FollowsIn End earlier next = ⊥
 FollowsIn (Then first rest) earlier next =
     ((first ≡ earlier) × IsFirstOf rest next) ⊎ FollowsIn rest earlier next
 
+-- a star or a plus, and its part
+abbrev pub IsRepeatOf : Form → (part : Form) → Type 0
+IsRepeatOf (Literal bytes span) part = ⊥
+IsRepeatOf (Class set span) part = ⊥
+IsRepeatOf (Any span) part = ⊥
+IsRepeatOf (Name name span) part = ⊥
+IsRepeatOf (Seq items span) part = ⊥
+IsRepeatOf (Choice first rest span) part = ⊥
+IsRepeatOf (Optional e span) part = ⊥
+IsRepeatOf (Star e span) part = e ≡ part
+IsRepeatOf (Plus e span) part = e ≡ part
+IsRepeatOf (Counted e min max span) part = ⊥
+IsRepeatOf (And e span) part = ⊥
+IsRepeatOf (Not e span) part = ⊥
+
 -- A sequence that never matches, since an item fails wherever the star or plus before it ends. The extents are those of
 -- the item and of the star or plus.
-abbrev pub IsNeverStopping : List Rule → (number : ℕ) → Extent → Option Extent → Type 0
-IsNeverStopping rules number span by =
-    (items : Forms) × (whole : Extent) × (repeat next : Form) × IsPartOfRule rules number (Seq items whole)
-    × FollowsIn items repeat next × (extent_of next ≡ span) × (Some (extent_of repeat) ≡ by)
-    × NeverMatches rules (Seq items whole)
+pub record IsNeverStopping (rules : List Rule) (number : ℕ) (span : Extent) (by : Option Extent) : Type 0 where
+  pub items : Forms
+  pub whole : Extent
+  pub repeat : Form
+  pub part : Form
+  pub next : Form
+  pub in_rule : IsPartOfRule rules number (Seq items whole)
+  pub follows : FollowsIn items repeat next
+  pub repeats : IsRepeatOf repeat part
+  pub span_is : extent_of next ≡ span
+  pub by_is : Some (extent_of repeat) ≡ by
+  pub fails : FailsAfter rules repeat next
+  pub never : NeverMatches rules (Seq items whole)
 
 -- an expression is an item of a sequence, or an alternative of a choice
 abbrev pub IsItemOf : Form → (item : Form) → Type 0
@@ -278,6 +301,7 @@ Decides kind.EmptyAlternative rules start number span by = ⊥
 Decides kind.AnyAtEnd rules start number span by = ⊥
 Decides kind.ClassBeginsWithCaret rules start number span by = ⊥
 Decides kind.ClassEndsInRange rules start number span by = ⊥
+Decides kind.RangeOverSigns rules start number span by = ⊥
 Decides kind.HoldsLineEnd rules start number span by = ⊥
 Decides kind.HighBytesInClass rules start number span by = ⊥
 Decides kind.BlanksInClass rules start number span by = ⊥
@@ -304,6 +328,7 @@ Says kind.EmptyAlternative rules start number span by = ⊥
 Says kind.AnyAtEnd rules start number span by = ⊥
 Says kind.ClassBeginsWithCaret rules start number span by = ⊥
 Says kind.ClassEndsInRange rules start number span by = ⊥
+Says kind.RangeOverSigns rules start number span by = ⊥
 Says kind.HoldsLineEnd rules start number span by = ⊥
 Says kind.HighBytesInClass rules start number span by = ⊥
 Says kind.BlanksInClass rules start number span by = ⊥
@@ -343,13 +368,23 @@ rank_of kind.EmptyAlternative = 9
 rank_of kind.AnyAtEnd = 10
 rank_of kind.ClassBeginsWithCaret = 11
 rank_of kind.ClassEndsInRange = 12
-rank_of kind.HoldsLineEnd = 13
-rank_of kind.HighBytesInClass = 14
-rank_of kind.BlanksInClass = 15
+rank_of kind.RangeOverSigns = 13
+rank_of kind.HoldsLineEnd = 14
+rank_of kind.HighBytesInClass = 15
+rank_of kind.BlanksInClass = 16
 
--- warnings in the order of the starts of their extents, and those with the same start in the order of their kinds
+-- Warnings in the order of the starts of their extents. Those with the same start are in the order of their kinds, and
+-- those of the same kind in the order of their ends.
 pub record IsInWrittenOrder (warnings : List Warning) : Type 0 where
   pub starts : IsNonDecreasingBy (λ warning. warning.span.start) warnings
   pub kinds : (k : ℕ) (d : Warning) → k + 1 < length warnings
       → (slice_index_or warnings k d).span.start ≡ (slice_index_or warnings (k + 1) d).span.start
       → rank_of (slice_index_or warnings k d).kind ≤ rank_of (slice_index_or warnings (k + 1) d).kind
+  pub ends : (k : ℕ) (d : Warning) → k + 1 < length warnings
+      → (slice_index_or warnings k d).span.start ≡ (slice_index_or warnings (k + 1) d).span.start
+      → (slice_index_or warnings k d).kind ≡ (slice_index_or warnings (k + 1) d).kind
+      → (slice_index_or warnings k d).span.end ≤ (slice_index_or warnings (k + 1) d).span.end
+
+-- no two warnings of a list are equal
+abbrev pub AreDistinct : List Warning → Type 0
+AreDistinct warnings = AllPairs (λ (a b : Warning). a ≢ b) warnings

@@ -1,19 +1,21 @@
 //! Warnings about the texts of classes and literals.
 ghost use Rattle.std.specs.Prelude.{◌≡◌, ◌<◌, ◌≤◌, ◌+◌, ℕ, IsTrue, List, length, IfNone, IfSome, OnOk};
 ghost use Rattle.peg_bytes.specs.ByteSet.{Bytes};
-ghost use Rattle.peg_bytes.specs.Extent.{extent};
+ghost use Rattle.peg_bytes.specs.Extent.{Extent, extent};
 ghost use Rattle.peg_metagrammar.specs.Ranges.{Range};
 ghost use Rattle.peg_metagrammar.specs.RangesCode.{range_of};
 ghost use Rattle.peg_semantics.specs.Form.{Class, Literal};
 ghost use Rattle.peg_semantics.specs.Rules.{Rule};
 ghost use Rattle.peg_lint.specs.FileWarnings.{SaysOfFile};
-ghost use Rattle.peg_lint.specs.Habits.{IsWithin, ends_in_bracket, text_in};
-ghost use Rattle.peg_lint.specs.Linting.{AddsIn, FindsClass, FindsIf, FindsLineEnd, FindsRanges, FindsWhole};
-ghost use Rattle.peg_lint.specs.Spelling.{IsRangeAt};
+ghost use Rattle.peg_lint.specs.Habits.{IsWithin, text_in};
+ghost use Rattle.peg_lint.specs.Linting.{AddsIn, FindsClass, FindsIf, FindsLineEnd};
+ghost use Rattle.peg_lint.specs.Linting.{FindsRange, FindsRanges, FindsWhole};
+ghost use Rattle.peg_lint.specs.Spelling.{IsRangeAt, IsRangeOfClass};
 ghost use Rattle.peg_lint.specs.Warnings.{IsPartOfRule};
 
 use crate::habits::{
-    begins_with_caret, ends_in_bracket, has_blanks_around, holds_high_byte, holds_line_end, text_in,
+    begins_with_caret, ends_in_bracket, goes_over_signs, has_blanks_around, holds_high_byte,
+    holds_line_end, text_in,
 };
 use crate::{Warning, WarningKind};
 use peg_bytes::Span;
@@ -47,16 +49,6 @@ fn range_within(file: &[u8], at: u32, end: u32) -> Option<Placed>
     })
 }
 
-// Returns whether the text of a range in a span of the file ends in a bracket without a backslash.
-fn is_to_bracket(file: &[u8], span: Span) -> bool
-    ensures { IsWithin file.now (extent span) → result ≡ ends_in_bracket (text_in file.now (extent span)) }
-{
-    match text_in(file, span) {
-        Some(text) => ends_in_bracket(text),
-        None => false,
-    }
-}
-
 // Adds a warning if what it says holds.
 fn add_if(
     holds: bool,
@@ -80,6 +72,31 @@ fn add_if(
     Ok(())
 }
 
+// Adds the warnings about a range of a class. Takes time linear in its text.
+fn add_of_range(
+    file: &[u8],
+    rule: u32,
+    span: Span,
+    bytes: ByteRange,
+    found: &mut Vec<Warning>,
+) -> Result<(), AllocError>
+    ensures { OnOk result ((rules : List Rule) (set : Bytes) (class : Extent)
+        → IsPartOfRule rules rule (Class set class)
+        → IsWithin file.now class → IsRangeOfClass file.now class (extent span) (range_of bytes)
+        → AddsIn file.now rules (FindsRange file.now rule (extent span) (range_of bytes))
+        found.old.items found.new.items) }
+{
+    let Some(text) = text_in(file, span) else {
+        return Ok(());
+    };
+    let is_reversed = bytes.high < bytes.low;
+    let to_bracket = ends_in_bracket(text);
+    let over_signs = goes_over_signs(text);
+    add_if(is_reversed, WarningKind::ReversedRange, rule, span, found)?;
+    add_if(to_bracket, WarningKind::ClassEndsInRange, rule, span, found)?;
+    add_if(over_signs, WarningKind::RangeOverSigns, rule, span, found)
+}
+
 // Adds the warnings about the ranges of a class. Takes time linear in the class.
 fn add_of_ranges(
     file: &[u8],
@@ -97,10 +114,7 @@ fn add_of_ranges(
     let mut at = class.start + 1;
     'spelled: while let Some(range) = range_within(file, at, class.end) {
         let span = Span::new(at, at + range.length);
-        let is_reversed = range.bytes.high < range.bytes.low;
-        add_if(is_reversed, WarningKind::ReversedRange, rule, span, found)?;
-        let to_bracket = is_to_bracket(file, span);
-        add_if(to_bracket, WarningKind::ClassEndsInRange, rule, span, found)?;
+        add_of_range(file, rule, span, range.bytes, found)?;
         at = span.end;
     }
     Ok(())

@@ -4,12 +4,12 @@ ghost use Rattle.peg_core.specs.CoreParts.{AreCoreFormsOf};
 ghost use Rattle.peg_grammar.specs.GrammarRules.{rules_in};
 ghost use Rattle.peg_lint.specs.FileWarnings.{FindsAll, IsTrueWarningIn, is_selected};
 ghost use Rattle.peg_lint.specs.Linting.{AddsIn, FindsInFile, FindsRuleText};
-ghost use Rattle.peg_lint.specs.Warnings.{IsInWrittenOrder};
+ghost use Rattle.peg_lint.specs.Warnings.{AreDistinct, IsInWrittenOrder};
 
 use crate::dots::add_dot_at_end;
 use crate::file_visit::lint_text;
 use crate::lint::warnings;
-use crate::order::sort;
+use crate::order::sort_unique;
 use crate::selection::select;
 use crate::{Selection, Warning};
 use peg_core::Core;
@@ -52,7 +52,8 @@ fn lint_rule_texts(
 ///
 /// No warning is missing of the kinds that are reported, but for `SameAlternative`, `Shadowed` and `NeverStops`.
 ///
-/// The warnings are sorted by the start of their spans, and those with the same start by kind.
+/// No two warnings are equal. They are sorted by the start of their spans, those with the same start by kind, and those
+/// of the same kind by the end of their spans.
 ///
 /// Takes the memory and the time of `warnings`, and time linear in the file. The only error is a failed allocation.
 pub fn file_warnings(
@@ -70,10 +71,11 @@ pub fn file_warnings(
     ensures selected { IfOk result (λ found. All (λ warning. IsTrue (is_selected selection warning)) found.items) }
     ensures all { IfOk result (λ found. FindsAll file.now (rules_in grammar.now) start selection found.items) }
     ensures in_order { IfOk result (λ found. IsInWrittenOrder found.items) }
+    ensures distinct { IfOk result (λ found. AreDistinct found.items) }
 {
     let mut found = warnings(alloc, grammar, core, start)?;
     lint_rule_texts(file, grammar, &mut found)?;
     select(selection, &mut found);
-    sort(&mut found)?;
+    sort_unique(&mut found)?;
     Ok(found)
 }

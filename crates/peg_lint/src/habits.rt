@@ -1,7 +1,8 @@
 //! Habits of other notations in the texts of classes, ranges and literals.
 ghost use Rattle.std.specs.Prelude.{◌≡◌, false, IfNone, IfSome};
 ghost use Rattle.peg_bytes.specs.Extent.{extent};
-ghost use Rattle.peg_lint.specs.Habits.{begins_with_caret, ends_in_bracket, has_blanks_around, holds_high_byte};
+ghost use Rattle.peg_lint.specs.Habits.{are_of_two_kinds, are_signs_around_dash, begins_with_caret, ends_in_bracket};
+ghost use Rattle.peg_lint.specs.Habits.{goes_over_signs, has_blanks_around, holds_high_byte};
 ghost use Rattle.peg_lint.specs.Habits.{IsWithin, has_closing, holds_line_end, text_in};
 
 use peg_bytes::Span;
@@ -27,6 +28,33 @@ pub(crate) fn ends_in_bracket(text: &[u8]) -> bool
     ensures { result ≡ ends_in_bracket text.now }
 {
     text.ends_with(b"-]")
+}
+
+// Returns whether one byte is a digit and the other a letter, or one a capital letter and the other a small one.
+fn are_of_two_kinds(low: u8, high: u8) -> bool
+    ensures { result ≡ are_of_two_kinds low high }
+{
+    match (low, high) {
+        (b'0'..=b'9', b'A'..=b'Z' | b'a'..=b'z') | (b'A'..=b'Z', b'a'..=b'z') => true,
+        _ => false,
+    }
+}
+
+// Returns whether one byte is a sign between `!` and the dash, and the other one between the dash and the digits.
+fn are_signs_around_dash(low: u8, high: u8) -> bool
+    ensures { result ≡ are_signs_around_dash low high }
+{
+    b'!' < low && low < b'-' && b'-' < high && high < b'0'
+}
+
+/// Returns whether the text of a range has three characters, and the range goes over signs.
+pub(crate) fn goes_over_signs(text: &[u8]) -> bool
+    ensures { result ≡ goes_over_signs text.now }
+{
+    match text {
+        [low, _, high] => are_of_two_kinds(*low, *high) || are_signs_around_dash(*low, *high),
+        _ => false,
+    }
 }
 
 /// Returns whether a text goes over the end of a line.

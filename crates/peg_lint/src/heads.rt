@@ -8,11 +8,11 @@ ghost use Rattle.peg_lint.specs.Never.{FailsWhere};
 
 use peg_grammar::{Expr, Grammar};
 
-/// How many steps lead at most to the terminal that an expression begins with.
+/// One more than the number of steps that lead at most to the terminal that an expression begins with.
 pub(crate) const STEPS: u8 = 8;
 
-/// Returns the literal, class or dot that an expression begins with, if at most `steps` steps lead to it. A step is to
-/// the first item of a sequence, to the part of a plus, a count or an and-predicate, or to the expression of a rule.
+/// Returns the literal, class or dot that an expression begins with, if fewer than `steps` steps lead to it. A step is
+/// to the first item of a sequence, to the part of a plus or an and-predicate, or to the expression of a rule.
 pub(crate) fn head<'a>(grammar: &'a Grammar, expr: &'a Expr, steps: u8) -> Option<&'a Expr>
     ensures { IfSome result (λ start. IsHeadOf (rules_in grammar.now) (form_of start.now) (form_of expr.now)) }
 {

@@ -6,10 +6,10 @@ ghost use Rattle.peg_core.specs.CoreParts.{AreCoreFormsOf};
 ghost use Rattle.peg_grammar.specs.GrammarRules.{rules_in};
 ghost use Rattle.peg_semantics.specs.RuleOutcomes.{AreAbstractOutcomes};
 ghost use Rattle.peg_lint.specs.Linting.{Adds, FindsRule, FindsRules, FindsUnused, Keeps};
-ghost use Rattle.peg_lint.specs.Warnings.{FindsDecided, IsInWrittenOrder, IsTrueWarning};
+ghost use Rattle.peg_lint.specs.Warnings.{AreDistinct, FindsDecided, IsInWrittenOrder, IsTrueWarning};
 
 use crate::findings::add_never_matches;
-use crate::order::sort;
+use crate::order::sort_unique;
 use crate::reach::reached_from;
 use crate::visit::lint_expression;
 use crate::{Warning, WarningKind};
@@ -26,7 +26,8 @@ use std::alloc::{AllocError, Global};
 /// No warning is missing of the kinds that Ford's abstract outcomes or the names in expressions decide: `UnusedRule`,
 /// `NeverMatches`, `NeverTried`, `AlwaysFails` and `NoEffect`.
 ///
-/// The warnings are sorted by the start of their spans, and those with the same start by kind.
+/// No two warnings are equal. They are sorted by the start of their spans, those with the same start by kind, and those
+/// of the same kind by the end of their spans.
 ///
 /// Takes memory linear in the grammar. Takes time linear in the grammar, apart from hashing and sorting, and from the
 /// digests of alternatives, which read an expression once for each choice around it. The only error is a failed
@@ -50,13 +51,14 @@ pub fn warnings(
     ensures true_warnings { IfOk result (λ found. All (IsTrueWarning (rules_in grammar.now) start) found.items) }
     ensures decided { IfOk result (λ found. FindsDecided (rules_in grammar.now) start found.items) }
     ensures in_order { IfOk result (λ found. IsInWrittenOrder found.items) }
+    ensures distinct { IfOk result (λ found. AreDistinct found.items) }
 {
     let table = table_of(alloc, core)?;
     let outcomes = rule_outcomes(alloc, core, &table)?;
     let mut found = Vec::new(alloc);
     lint_rules(alloc, grammar, &outcomes, &mut found)?;
     add_unused_rules(alloc, grammar, start, &mut found)?;
-    sort(&mut found)?;
+    sort_unique(&mut found)?;
     Ok(found)
 }
 

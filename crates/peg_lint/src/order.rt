@@ -1,13 +1,13 @@
 //! The order of warnings.
 ghost use Rattle.std.specs.Prelude.{◌≡◌, OnOk};
-ghost use Rattle.std.specs.List.Sorted.{IsPermutation};
-ghost use Rattle.peg_lint.specs.Warnings.{IsInWrittenOrder, rank_of};
+ghost use Rattle.peg_lint.specs.Linting.{HaveSameWarnings, key_of};
+ghost use Rattle.peg_lint.specs.Warnings.{AreDistinct, IsInWrittenOrder, rank_of};
 
 use crate::{Warning, WarningKind};
 use std::alloc::AllocError;
 
 // Returns the place of a kind among all kinds.
-fn rank(kind: WarningKind) -> u8
+fn rank(kind: WarningKind) -> u32
     ensures { result ≡ rank_of kind }
 {
     match kind {
@@ -24,18 +24,37 @@ fn rank(kind: WarningKind) -> u8
         WarningKind::AnyAtEnd => 10,
         WarningKind::ClassBeginsWithCaret => 11,
         WarningKind::ClassEndsInRange => 12,
-        WarningKind::HoldsLineEnd => 13,
-        WarningKind::HighBytesInClass => 14,
-        WarningKind::BlanksInClass => 15,
+        WarningKind::RangeOverSigns => 13,
+        WarningKind::HoldsLineEnd => 14,
+        WarningKind::HighBytesInClass => 15,
+        WarningKind::BlanksInClass => 16,
     }
 }
 
-/// Sorts warnings by the start of their spans. Those with the same start are sorted by kind.
-pub(crate) fn sort(found: &mut Vec<Warning>) -> Result<(), AllocError>
-    ensures same { OnOk result (IsPermutation found.old.items found.new.items) }
-    ensures in_order { OnOk result (IsInWrittenOrder found.new.items) }
+// Returns the numbers by which a warning is sorted. No two warnings have the same.
+fn key(warning: &Warning) -> [u32; 7]
+    ensures { result ≡ key_of warning.now }
 {
-    found.sort_by_key(|warning| rank(warning.kind))?;
-    found.sort_by_key(|warning| warning.span.start)?;
+    let (start, kind, end) = (warning.span.start, rank(warning.kind), warning.span.end);
+    match warning.by {
+        None => [start, kind, end, warning.rule, 0, 0, 0],
+        Some(by) => [start, kind, end, warning.rule, 1, by.start, by.end],
+    }
+}
+
+/// Sorts warnings by the start of their spans, those with the same start by kind, and those of the same kind by the end
+/// of their spans. Removes each warning that is equal to an earlier one.
+pub(crate) fn sort_unique(found: &mut Vec<Warning>) -> Result<(), AllocError>
+    ensures same { OnOk result (HaveSameWarnings found.old.items found.new.items) }
+    ensures in_order { OnOk result (IsInWrittenOrder found.new.items) }
+    ensures distinct { OnOk result (AreDistinct found.new.items) }
+{
+    found.sort_by_key(key)?;
+    found.dedup_by_key(
+        |warning: &mut Warning| -> [u32; 7]
+            ensures key { result ≡ key_of warning.old }
+            ensures same { warning.new ≡ warning.old }
+        { key(warning) },
+    );
     Ok(())
 }

@@ -4,8 +4,8 @@ ghost use Rattle.peg_bytes.specs.Extent.{Extent};
 ghost use Rattle.peg_grammar.specs.GrammarRules.{rules_in};
 ghost use Rattle.peg_grammar.specs.Written.{form_of};
 ghost use Rattle.peg_semantics.specs.Form.{Seq, forms};
-ghost use Rattle.peg_lint.specs.Linting.{IsRepeatOf, IsStuck, KeepsTrue};
-ghost use Rattle.peg_lint.specs.Warnings.{IsPartOfRule};
+ghost use Rattle.peg_lint.specs.Linting.{IsStuck, KeepsTrue};
+ghost use Rattle.peg_lint.specs.Warnings.{IsPartOfRule, IsRepeatOf};
 
 use crate::expressions::span_of;
 use crate::heads::{STEPS, covers, head};

@@ -33,6 +33,9 @@ pub enum WarningKind {
     ClassBeginsWithCaret,
     /// A range in a class whose last character is a bracket without a backslash.
     ClassEndsInRange,
+    /// A range in a class of three characters that goes over signs: from a digit or a capital letter to a letter of
+    /// another kind, or from a sign to another one over the dash.
+    RangeOverSigns,
     /// A literal or a class that goes over the end of a line.
     HoldsLineEnd,
     /// A class with a byte that isn't ASCII. A letter of UTF-8 is two bytes or more there.
@@ -63,6 +66,7 @@ impl WarningKind {
             | WarningKind::AnyAtEnd
             | WarningKind::ClassBeginsWithCaret
             | WarningKind::ClassEndsInRange
+            | WarningKind::RangeOverSigns
             | WarningKind::HoldsLineEnd
             | WarningKind::HighBytesInClass
             | WarningKind::BlanksInClass => false,

@@ -178,6 +178,7 @@ fn name_of_kind(kind: WarningKind) -> &'static str
         WarningKind::AnyAtEnd => "AnyAtEnd",
         WarningKind::ClassBeginsWithCaret => "ClassBeginsWithCaret",
         WarningKind::ClassEndsInRange => "ClassEndsInRange",
+        WarningKind::RangeOverSigns => "RangeOverSigns",
         WarningKind::HoldsLineEnd => "HoldsLineEnd",
         WarningKind::HighBytesInClass => "HighBytesInClass",
         WarningKind::BlanksInClass => "BlanksInClass",

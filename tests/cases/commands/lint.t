@@ -111,6 +111,7 @@ With the habits they have every kind of the two tables once.
   NeverStops
   NeverTried
   NoEffect
+  RangeOverSigns
   ReversedRange
   SameAlternative
   Shadowed

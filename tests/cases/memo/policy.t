@@ -17,6 +17,12 @@ With a star its failures are stored, and each is found by the second call.
   $ bash calls.sh "S <- (!N !N .)*  N <- [0-9]+ 'y'" z 20
   "again":0,"calls":21,"places":21,"rule":"N"
 
+A memo holds results of several rules. If it held one entry, the failure of M would take the place of that of N, and the
+second call of N would run again.
+
+  $ bash calls.sh "S <- (!N !M !N !M .)*  N <- [0-9]+ 'y'  M <- [0-9]+ 'x'" z 20
+  "again":0,"calls":21,"places":21,"rule":"N"
+
 A stored failure costs a rule 8 of its balance of 4,352, and a hit gains 4. So the balance is 252 after 1,025 positions,
 and below 256 the rule is in debt. From there, one failure in 128 is stored. It is the second of its position, so it is
 never found. N runs twice at each of the other 976 positions.

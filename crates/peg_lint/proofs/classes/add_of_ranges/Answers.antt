@@ -1,13 +1,9 @@
-use Rattle.std.proofs.Common.{◌≡◌, ◌+◌, ◌≤◌, List, None, IsTrue, length, nat_lt, inr, sym, ◌∙◌, ap, subst, arith}
+use Rattle.std.proofs.Common.{◌≡◌, ◌+◌, ◌≤◌, length, inr, sym, ◌∙◌, ap, subst, arith}
 use Rattle.peg_bytes.specs.Extent.{between, extent}
 use Rattle.peg_metagrammar.specs.RangesCode.{range_of}
-use Rattle.peg_lint.specs.Habits.{IsWithin, ends_in_bracket, text_in}
-use Rattle.peg_lint.specs.Linting.{FindsIf, FindsRanges, FindsRangesBefore, Keeps}
+use Rattle.peg_lint.specs.Linting.{FindsRange, FindsRanges, FindsRangesBefore}
 use Rattle.peg_lint.specs.Spelling.{IsRangeAt, IsRangeOfClass, RangesBetween, one_more, none}
-use Rattle.peg_lint.specs.Warnings.{HasWarning}
-use Rattle.peg_lint.specs.declared.warning.Warning.{Warning}
-use Rattle.peg_lint.specs.declared.warning.WarningKind.TheVariants as kind
-use Rattle.peg_lint.proofs.FileLemmas.{AddsIn-same, AddsIn-then, AddsIn-weaker, less, less-true}
+use Rattle.peg_lint.proofs.FileLemmas.{AddsIn-same, AddsIn-then, AddsIn-weaker}
 use Rattle.peg_lint.proofs.RangeLemmas.{FindsRanges-all, FindsRanges-none, FindsRangesBefore-next}
 use Rattle.peg_lint.proofs.classes.add_of_ranges.Goals as goal
 
@@ -21,7 +17,11 @@ spelled-init c =
       inside = omega arith;
       adds = λ rules set part within. AddsIn-same file rules
           (FindsRangesBefore file c.args.rule class (class.start + 1)) old
-          (record { reversed = λ span is. inr is.2.before; to_bracket = λ span is. inr is.1.before });
+          (record {
+            reversed = λ span is. inr is.2.before;
+            to_bracket = λ span is. inr is.1.before;
+            over_signs = λ span is. inr is.1.before;
+          });
     }
 
 pub spelled-preserved : goal.spelled-preserved
@@ -37,8 +37,7 @@ spelled-preserved c =
     let at = c.spelled.at in
     let l = c.args.found.now.items in
     let l0 = c.spelled.found.items in
-    let l1 = c.add_if.new.found.items in
-    let l2 = c.add_if-in-Some.new.found.items in
+    let l1 = c.add_of_range.new.found.items in
     let here : span ≡ between at (at + piece.length) = λ i. between (made.start i) (made.end i) in
     let ends : c.new-span.result.end ≤ c.args.class.end = rw made.end c.in-Some.ensures.within in
     let is : IsRangeOfClass file class span (range_of piece.bytes) = record {
@@ -52,31 +51,14 @@ spelled-preserved c =
       before = subst (RangesBetween file (class.start + 1)) (sym made.end) (one_more before read);
       inside = ends;
       adds = λ rules set part within.
-          let inside : IsWithin file span = record {
-            ordered = omega (arith, made.start, made.end);
-            ends = omega (arith, ends, within.ends);
-          } in
-          let bracket = c.is_to_bracket-to_bracket.ensures inside in
-          let low = piece.bytes.low in
-          let high = piece.bytes.high in
-          let Reversed = FindsIf (nat_lt high low) kind.ReversedRange number span in
-          let ToBracket = FindsIf c.is_to_bracket-to_bracket.result kind.ClassEndsInRange number span in
-          let Before = FindsRangesBefore file number class at in
-          let Both = λ (now : List Warning). (m : List Warning) × Keeps m now × Before m × Reversed now in
-          let After = FindsRangesBefore file number class c.new-span.result.end in
-          let one = c.in_ok-add_if.ensures file rules
-          (λ h. (set, class, part, within, (low, high, is, less high low h))) in
-          let two = c.in_ok-add_if-2.ensures file rules
-          (λ h. (set, class, part, within, (range_of piece.bytes, is, sym bracket ∙ h))) in
-          AddsIn-then file rules Both ToBracket After l l1 l2
-          (AddsIn-then file rules Before Reversed Both l l0 l1 (c.spelled.invariant.adds rules set part within) one
-          (λ keeps a b. (l0, keeps, a, b))) two
-          (λ keeps a b. subst (λ n. FindsRangesBefore file number class n l2) (sym made.end)
-          (FindsRangesBefore-next file number class at piece.length low high a.0 l1 l2 read a.1 keeps
-          (λ down. subst (λ s. HasWarning l1 kind.ReversedRange number s None) here (a.3 (less-true high low down)))
-          (λ h. subst (λ s. HasWarning l2 kind.ClassEndsInRange number s None) here
-          (b (bracket ∙ subst (λ s. IsTrue (ends_in_bracket (text_in file s))) (sym here) h)))
-          a.2));
+          let bytes = range_of piece.bytes in
+          AddsIn-then file rules (FindsRangesBefore file number class at) (FindsRange file number span bytes)
+          (FindsRangesBefore file number class c.new-span.result.end) l l0 l1
+          (c.spelled.invariant.adds rules set part within)
+          (c.in_ok-add_of_range.ensures rules set class part within is)
+          (λ keeps before this. subst (λ n. FindsRangesBefore file number class n l1) (sym made.end)
+          (FindsRangesBefore-next file number class at piece.length bytes l0 l1 read keeps
+          (subst (λ s. FindsRange file number s bytes l1) here this) before));
     }
 
 pub returns-then-class : goal.returns-then-class

@@ -4,7 +4,7 @@ use Rattle.peg_grammar.specs.GrammarRules.{rules_in}
 use Rattle.peg_grammar.specs.Written.{form_of}
 use Rattle.peg_semantics.specs.Form.{forms}
 use Rattle.peg_lint.proofs.FileLemmas.{KeepsTrue-both, KeepsTrue-push}
-use Rattle.peg_lint.proofs.StopLemmas.{follows, never-stops}
+use Rattle.peg_lint.proofs.StopLemmas.{fails-after, follows, never-stops}
 use Rattle.peg_lint.specs.Linting.{KeepsTrue}
 use Rattle.peg_lint.specs.Warnings.{IsNeverStopping}
 use Rattle.peg_lint.specs.declared.warning.Warning.{Warning}
@@ -31,16 +31,21 @@ items-preserved c = λ span part.
       span = c.span_of.result;
       by = Some c.span_of-in-items.result;
     } in
-    let says : IsNeverStopping rules c.args.rule (extent c.span_of.result) (Some (extent c.span_of-in-items.result)) = (
-      forms (map form_of items),
-      span,
-      form_of repeat,
-      form_of next,
-      part,
-      follow,
-      sym c.span_of.ensures,
-      ap Some (sym c.span_of-in-items.ensures),
-      never-stops rules (forms (map form_of items)) span (form_of repeat) (form_of next) stuck.0 follow stuck.1 stuck.2,
-    ) in
+    let says : IsNeverStopping rules c.args.rule (extent c.span_of.result) (Some (extent c.span_of-in-items.result)) =
+    record {
+      items = forms (map form_of items);
+      whole = span;
+      repeat = form_of repeat;
+      part = stuck.0;
+      next = form_of next;
+      in_rule = part;
+      follows = follow;
+      repeats = stuck.1;
+      span_is = sym c.span_of.ensures;
+      by_is = ap Some (sym c.span_of-in-items.ensures);
+      fails = fails-after rules (form_of repeat) (form_of next) stuck.0 stuck.1 stuck.2;
+      never = never-stops rules (forms (map form_of items)) span (form_of repeat) (form_of next) stuck.0 follow stuck.1
+          stuck.2;
+    } in
     KeepsTrue-both rules c.args.found.now.items found c.push.new.self.items (c.items.invariant span part)
     (subst (KeepsTrue rules found) (sym c.in_ok-push.ensures.items) (KeepsTrue-push rules found w (λ start. says)))
