@@ -21,7 +21,8 @@
  *   A call takes at most 240 KiB of the caller's stack. This bound is measured, not proved.
  *
  * Pointers
- *   No pointer may be NULL, not even with a length of 0: pass any valid address, such as that of a string literal.
+ *   No pointer may be NULL, not even with a length of 0: pass any valid address that is aligned for its type. For bytes
+ *   it may be that of a string literal.
  *   Check what malloc and calloc return, and request at least one byte: `calloc(0, ..)` may return NULL.
  *   Memory that a call writes must be initialised before, for example by calloc, or by `= {0}` in C and `= {}` in C++.
  *   It must not overlap other memory of the same call. Two handles of one call must be different variables.

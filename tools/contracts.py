@@ -44,6 +44,7 @@ def owner_of(line):
 def clauses_after(lines, start, cited):
     """The clauses of the function whose head starts at a line, as Markdown, with the records that they cite."""
     names = []
+    depth = 0  # the braces that are open; a record in a clause may take several lines
     for line in map(str.strip, lines[start:]):
         found = CLAUSE.match(line)
         if found:
@@ -51,7 +52,10 @@ def clauses_after(lines, start, cited):
         record = next((word for word in re.findall(r"\w+", line) if word in cited), None) if names else None
         if record:
             names[-1] += f" (`{record}`)"
-        if line in ("{", "{}") or line.endswith(";"):
+        if line in ("{", "{}"):
+            break
+        depth += line.count("{") - line.count("}")
+        if line.endswith(";") and depth == 0:
             break
         if line.endswith(("{", "}")) and re.match(r"(pub |fn |const |\) ->)", line):
             break

@@ -1,4 +1,4 @@
-use Rattle.std.proofs.Common.{◌≡◌, ℕ, List, false, true, map, refl, string_bytes, subst, sym}
+use Rattle.std.proofs.Common.{◌≡◌, List, false, true, map, refl, string_bytes, subst, sym}
 use Rattle.std.proofs.lemmas.Result.{IfOk-weaker}
 use Rattle.std.specs.declared.alloc.Global.{Global}
 use Rattle.std.specs.declared.string.String.{String}

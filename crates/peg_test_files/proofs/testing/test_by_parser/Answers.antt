@@ -1,4 +1,8 @@
-use Rattle.std.proofs.Common.{◌≡◌, ◌∙◌, ℕ, List, None, [], ap, inr, refl, subst, sym, unwrap_or}
+use Rattle.std.proofs.Common.{◌≡◌, ◌∙◌, ℕ, IsErrAnd, List, None, [], Result, Ok, Err, ap, inl, inr, refl, subst, sym, unwrap_or}
+use Rattle.std.proofs.KnownBytes.{Keeps-refl}
+use Rattle.peg_explain_files.specs.declared.ended.Ended.{Ended}
+use Rattle.peg_explain_files.specs.declared.ended.ExplainFault.{ExplainFault}
+use Rattle.peg_explain_files.specs.declared.ended.ExplainFault.TheVariants.{Memory}
 use Rattle.peg_explain.specs.declared.style.ItemStyle.{ItemStyle}
 use Rattle.peg_explain_files.proofs.ExplainedLemmas.{unwrap-name}
 use Rattle.peg_explain_files.proofs.StartLemmas.{start-none, start-some}
@@ -24,6 +28,15 @@ returns-then-not-has_start-clause-answer g c is accepts =
     (subst (λ (n : List ℕ). WritesAlone All (no_start_message question.grammar n) NoSuchStart
     (g.W.Sink.written c.args.output.now) (g.W.Sink.written c.write_no_start.new.output) c.write_no_start.result) name
     c.write_no_start.ensures.writes))
+
+-- a failed allocation
+out_of_memory : (result : Result Ended ExplainFault) → IsErrAnd result (λ fault. fault ≡ Memory) → result ≡ Err Memory
+out_of_memory (Ok ended) is = absurd is
+out_of_memory (Err fault) is = ap Err is
+
+pub returns-in_err-results-clause-answer : goal.returns-in_err-results-clause-answer
+returns-in_err-results-clause-answer g c is accepts =
+    inl (out_of_memory c.from_residual-in_err-results.result c.from_residual-in_err-results.ensures.1, Keeps-refl _)
 
 pub returns-clause-answer : goal.returns-clause-answer
 returns-clause-answer g c is accepts =
