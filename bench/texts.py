@@ -48,3 +48,19 @@ def grammars(count):
     with open(f"{EXAMPLES}/json.peg", "rb") as file:
         rules = file.read()
     return rules * (count // len(rules) + 1)
+
+
+def log_text(count):
+    """Lines of a web server's log in the combined format."""
+    dice = random.Random(4)
+    lines, length = [], 0
+    while length < count:
+        host = ".".join(str(dice.randrange(256)) for _ in range(4))
+        day, month, clock = dice.randrange(1, 29), dice.choice(["Jan", "Jun", "Oct", "Dec"]), dice.randrange(86_400)
+        time = "%02d/%s/2026:%02d:%02d:%02d +0000" % (day, month, clock // 3600, clock // 60 % 60, clock % 60)
+        page = "/" + "".join(dice.choices("abcdefgh/-_", k=dice.randrange(4, 40)))
+        status, size = dice.choice([200, 200, 304, 404]), dice.randrange(10**5)
+        rest = '"GET %s HTTP/1.1" %d %d "-" "Mozilla/5.0 (X11; Linux x86_64)"' % (page, status, size)
+        lines.append("%s - - [%s] %s\n" % (host, time, rest))
+        length += len(lines[-1])
+    return "".join(lines).encode()

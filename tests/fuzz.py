@@ -196,13 +196,19 @@ class Case:
         return Grammar(self.file)
 
     def text(self, chance: random.Random, grammar: Grammar, text: bytes) -> None:
-        """Compares the parses of a text, one for each capacity of the memo."""
+        """Compares the parses of a text, one for each capacity of the memo, with random rules shown or hidden."""
         pathlib.Path(self.text_path).write_bytes(text)
         answer = Parse(grammar, text).answer(grammar.names[0])
         for memo in MEMOS:
-            is_rows, is_whole = chance.random() < 0.5, chance.random() < 0.5
-            options = ["--rows"] * is_rows + ["--all"] * is_whole
-            self.compare(parse_line(answer, text, is_rows, is_whole), text, "parse", self.grammar_path,
+            is_whole, form = chance.random() < 0.5, chance.choice(["--rows", "--rows", "", "", "--no-tree"])
+            listed = [name for name in grammar.names if chance.random() < 0.5]
+            shown, lists = None, []
+            if listed and chance.random() < 0.6:
+                is_hidden = chance.random() < 0.5
+                shown = set(grammar.names) - set(listed) if is_hidden else set(listed)
+                lists = ["--hide" if is_hidden else "--show", ",".join(listed)]
+            options = [form] * bool(form) + ["--all"] * is_whole + lists
+            self.compare(parse_line(answer, text, form, is_whole, shown), text, "parse", self.grammar_path,
                          self.text_path, "--memo", str(memo), "--steps", str(STEPS), *options)
 
 

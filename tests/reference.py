@@ -522,16 +522,29 @@ def table_line(file: bytes) -> tuple[str, int]:
     return line_of({"table": rows}), 0
 
 
-def parse_line(answer: Answer, text: bytes, is_rows: bool, is_whole: bool) -> tuple[str, int]:
-    """The line and the status of `parse`, with `--rows` and with `--all`."""
+def shown_among(nodes: tuple[Node, ...], shown: set[str]) -> tuple[Node, ...]:
+    """Nodes without those of rules that aren't shown. The children of an omitted node take its place."""
+    found: list[Node] = []
+    for node in nodes:
+        children = shown_among(node.children, shown)
+        found += [dataclasses.replace(node, children=children)] if node.rule in shown else children
+    return tuple(found)
+
+
+def parse_line(answer: Answer, text: bytes, form: str, is_whole: bool, shown: set[str] | None) -> tuple[str, int]:
+    """The line and the status of `parse` with this option for the tree's form, or with none for nested objects, and with
+    `--all`. The tree has its root and the nodes of these rules, or all nodes."""
     members: dict[str, object] = {"expected": answer.expected, "far": answer.far, "result": "failed"}
     root = answer.root
     if root is None:
         return line_of(members), 1
-    rows = list(rows_of(root))
-    if not is_rows and max(level for level, *_ in rows) > MAX_LEVELS:
-        return line_of({"refusal": "TooDeep"}), 6
     is_partial = is_whole and root.end < len(text)
     members |= {"consumed": root.end, "result": "partial" if is_partial else "matched"}
-    members |= {"rows": rows} if is_rows else {"tree": nested(root)}
+    if form != "--no-tree":
+        if shown is not None:
+            root = dataclasses.replace(root, children=shown_among(root.children, shown))
+        rows = list(rows_of(root))
+        if form != "--rows" and max(level for level, *_ in rows) > MAX_LEVELS:
+            return line_of({"refusal": "TooDeep"}), 6
+        members |= {"rows": rows} if form == "--rows" else {"tree": nested(root)}
     return line_of(members), int(is_partial)

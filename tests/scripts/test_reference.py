@@ -53,7 +53,7 @@ class Parses(unittest.TestCase):
 
     def test_a_line_has_its_keys_in_byte_order(self) -> None:
         line = '{"consumed":2,"expected":[[5,8]],"far":1,"result":"partial","rows":[[1,"S",0,2],[2,"S",1,2]]}\n'
-        self.assertEqual(parse_line(answer(b"S <- 'a' S / 'b'", b"abx"), b"abx", True, True), (line, 1))
+        self.assertEqual(parse_line(answer(b"S <- 'a' S / 'b'", b"abx"), b"abx", "--rows", True, None), (line, 1))
 
 
 class Refusals(unittest.TestCase):

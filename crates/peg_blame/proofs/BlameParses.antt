@@ -8,10 +8,10 @@ use Rattle.peg_diagnostics.specs.ItemTests.{item_terminals}
 use Rattle.peg_diagnostics.specs.LoudCalls.{calls_of_first}
 use Rattle.peg_diagnostics.proofs.ItemNumbers.{extents-terminals}
 use Rattle.peg_diagnostics.proofs.Lookups.{Distinct}
-use Rattle.peg_grammar.specs.Outcomes.{IsParseOutcomeAmong}
 use Rattle.peg_machine.specs.Traced.{GetsCalls}
 use Rattle.peg_machine.specs.declared.answer.Answer.{Answer}
 use Rattle.peg_parser.specs.Calls.{AreCallsOf, TracesCallsOf}
+use Rattle.peg_parser.specs.SelectedOutcomes.{IsParseOutcomeBy}
 use Rattle.peg_semantics.specs.Grammar.{IsGrammar}
 use Rattle.peg_semantics.specs.Record.{RuleCall}
 use Rattle.peg_semantics.specs.Rules.{Rule, names}
@@ -21,6 +21,7 @@ use Rattle.peg_tree.specs.declared.outcome.Outcome.{Outcome}
 use Rattle.peg_tree.specs.Selected.{has_rule}
 use Rattle.peg_blame.specs.BlameCalls.{HasCalledRules, is_called}
 use Rattle.peg_blame.specs.BlameOutcome.{IsBlameOutcome}
+use Rattle.peg_parser.specs.ShowsNone.{ShowsNone}
 use Rattle.peg_blame.proofs.BlameCalls.{called-rules}
 use Rattle.peg_blame.proofs.BlameOutcomes.{blame-outcome}
 use Rattle.peg_blame.proofs.BlameStarts.{same-start, start-numbered}
@@ -48,23 +49,25 @@ module _ (rules shown : List Rule) (named : Option (List ℕ)) (same : shown ≡
       (same-start rules named start some is)
 
   -- the outcome from a start
-  pub start-outcome : (text terminals : List ℕ) (outcome : Outcome) → terminals ≡ item_terminals rules
-      → Distinct (names (diagnostic_rules rules)) → ∥ IsWellFormedGrammar rules ∥₁
-      → IfSome (start_name shown named) (λ start. IsParseOutcomeAmong shown text start terminals outcome)
+  pub start-outcome : (set : Option (List Bool)) (text terminals : List ℕ) (outcome : Outcome) → ShowsNone set
+      → terminals ≡ item_terminals rules → Distinct (names (diagnostic_rules rules)) → ∥ IsWellFormedGrammar rules ∥₁
+      → IfSome (start_name shown named) (λ start. IsParseOutcomeBy set (Some terminals) shown text start outcome)
       → IfSome (start_name rules named) (λ start. IsBlameOutcome rules text start outcome)
-  start-outcome text terminals outcome listed distinct formed is = by (start_name rules named) refl
+  start-outcome set text terminals outcome bare listed distinct formed is = by (start_name rules named) refl
     where
       by : (start : Option (List ℕ)) → start_name rules named ≡ start
           → IfSome start (λ start. IsBlameOutcome rules text start outcome)
       by None found = tt
       by (Some start) found =
           let at = start-numbered rules named start some found in
-          let here : IsParseOutcomeAmong shown text start terminals outcome =
-          subst (λ (o : Option (List ℕ)). IfSome o (λ start. IsParseOutcomeAmong shown text start terminals outcome))
+          let here : IsParseOutcomeBy set (Some terminals) shown text start outcome =
+          subst (λ (o : Option (List ℕ)). IfSome o (λ start. IsParseOutcomeBy set (Some terminals) shown text start outcome))
           (shown-start start found) is in
-          blame-outcome rules distinct text start outcome at.0 at.1 at.2 formed
-          (subst (λ (l : List ℕ). IsParseOutcomeAmong (diagnostic_rules rules) text start l outcome) listed
-          (subst (λ (all : List Rule). IsParseOutcomeAmong all text start terminals outcome) same here))
+          blame-outcome rules distinct text start outcome bare.0 bare.2 at.0 at.1 at.2 formed
+          (subst (λ (s : Option (List Bool)). IsParseOutcomeBy s (Some (item_terminals rules)) (diagnostic_rules rules)
+          text start outcome) bare.1
+          (subst (λ (l : List ℕ). IsParseOutcomeBy set (Some l) (diagnostic_rules rules) text start outcome) listed
+          (subst (λ (all : List Rule). IsParseOutcomeBy set (Some terminals) all text start outcome) same here)))
 
   -- a tracer that stores a list has traced these calls
   abbrev stores : (stored calls : List RuleCall) → Type 0

@@ -3,6 +3,7 @@ ghost use Rattle.std.specs.Prelude.{◌≡◌, ◌<◌, ◌≤◌, List, All, If
 ghost use Rattle.std.specs.Prelude.{is_some, length, map};
 ghost use Rattle.std.specs.List.Sorted.{IsStrictlyIncreasing};
 ghost use Rattle.peg_blame.specs.BlameOutcome.{IsBlameOutcome};
+ghost use Rattle.peg_parser.specs.ShowsNone.{ShowsNone};
 ghost use Rattle.peg_blame.specs.Faults.{IsBlameRefusal, IsParserRefusal};
 ghost use Rattle.peg_bytes.specs.Extent.{extent};
 ghost use Rattle.peg_diagnostics.specs.Diagnostic.{diagnostic_rules};
@@ -15,7 +16,8 @@ ghost use Rattle.peg_grammar.specs.Limits.{max_text_bytes};
 ghost use Rattle.peg_code.specs.Compiled.{max_instructions};
 ghost use Rattle.peg_parser.specs.Accepts.{code_size};
 ghost use Rattle.peg_parser.specs.ParseContract.{HasParseFaults, HasParseSteps, HasStepLimit};
-ghost use Rattle.peg_parser.specs.Parser.{parser_rules, start_named};
+ghost use Rattle.peg_parser.specs.Engine.{rules_shown, shown_parser_rules};
+ghost use Rattle.peg_parser.specs.Parser.{start_named};
 ghost use Rattle.peg_semantics.specs.Rules.{Rule};
 ghost use Rattle.peg_semantics.specs.Starts.{start_name};
 ghost use Rattle.peg_semantics.specs.WellFormed.{IsWellFormedGrammar};
@@ -28,15 +30,15 @@ use peg_diagnostics::{
 };
 use peg_grammar::Grammar;
 use peg_machine::ListWatch;
-use peg_parser::{Answer, ParseFault, ParseOptions, Parser, Refusal};
+use peg_parser::{Answer, ParseFault, ParseOptions, Parser, Refusal, ShownParser};
 use peg_tree::RuleSet;
 use std::alloc::Global;
 
-/// The parser of a grammar's diagnostic grammar. It parses as the grammar does, and finds the furthest failure of an
-/// item: a terminal or a predicate, outside predicates.
+/// The parser of a grammar's diagnostic grammar. It parses as the grammar does, without nodes but the root, and finds
+/// the furthest failure of an item: a terminal or a predicate, outside predicates.
 #[derive(Drop)]
 pub struct BlameParser {
-    parser: Parser,
+    parser: ShownParser,
     rules: u32,
     terminals: Vec<u32>,
     items: Vec<Span>,
@@ -100,10 +102,10 @@ impl BlameParser {
         self.item_kinds.as_slice()
     }
 
-    /// Parses a prefix of a text by the grammar as written. Success, consumed length and tree are those of Ford's
-    /// relation (Ford 2004, section 3.3). The furthest failure is that of the blame: the greatest offset where an item
-    /// failed outside predicates, and the numbers of the items that failed there, ascending. By the law
-    /// `each_blamed_item_fails` of `peg_diagnostics` each of them fails there by Ford's relation, too.
+    /// Parses a prefix of a text by the grammar as written. Success and consumed length are those of Ford's relation
+    /// (Ford 2004, section 3.3); the tree is the root alone. The furthest failure is that of the blame: the greatest
+    /// offset where an item failed outside predicates, and the numbers of the items that failed there, ascending. By
+    /// the law `each_blamed_item_fails` of `peg_diagnostics` each of them fails there by Ford's relation, too.
     ///
     /// The errors are those of `Parser::parse` for the grammar as written. The steps are those of the diagnostic
     /// grammar.
@@ -199,15 +201,16 @@ impl BlameParser {
     }
 }
 
-// The parser of the diagnostic grammar.
-fn diagnostic_parser(alloc: Global, diagnostic: Grammar) -> Result<Parser, BlameFault>
-    ensures rules { IfOk result (λ parser. parser_rules parser ≡ rules_in diagnostic) }
+// The parser of the diagnostic grammar, which shows no rules.
+fn diagnostic_parser(alloc: Global, diagnostic: Grammar) -> Result<ShownParser, BlameFault>
+    ensures rules { IfOk result (λ parser. shown_parser_rules parser ≡ rules_in diagnostic) }
+    ensures bare { IfOk result (λ parser. ShowsNone (rules_shown parser)) }
     ensures well_formed { OnOk result (IsWellFormedGrammar (rules_in diagnostic)) }
     ensures small { OnOk result (code_size (rules_in diagnostic) ≤ max_instructions) }
     ensures refused { IfErr result (IsParserRefusal (rules_in diagnostic)) }
 {
     match Parser::from_grammar(alloc, diagnostic) {
-        Ok(parser) => Ok(parser),
+        Ok(parser) => Ok(parser.without_nodes(alloc)?),
         Err(Refusal::NotWellFormed(_, _)) => Err(BlameFault::NotWellFormed),
         Err(Refusal::CodeTooLarge) => Err(BlameFault::CodeTooLarge),
         Err(Refusal::Memory) => Err(BlameFault::Memory),

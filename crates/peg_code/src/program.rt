@@ -61,12 +61,12 @@ impl Program {
         }
     }
 
-    /// Returns the program with a set of rules to show. Its runs make no nodes of other rules: the children of such a
-    /// node take its place. The root is always shown. A rule beyond the set's size isn't in it.
-    pub fn showing(mut self, rules: RuleSet) -> Program
-        ensures { result ≡ showing (Some rules) self }
+    /// Returns the program with a set of rules to show, or with all for `None`. Its runs make no nodes of other rules:
+    /// the children of such a node take its place. The root is always shown. A rule beyond the set's size isn't in it.
+    pub fn showing(mut self, rules: Option<RuleSet>) -> Program
+        ensures { result ≡ showing rules self }
     {
-        self.shown = Some(rules);
+        self.shown = rules;
         self
     }
 

@@ -9,7 +9,7 @@ use peg_machine::{Answer, NoWatch, RunFault, run, run_with_shortcuts};
 use peg_memo::{LruMemo, NoMemo};
 use peg_notation::read;
 use peg_shortcut::{CallMode, Shortcuts};
-use peg_tree::{Parsed, RuleSet, TreeNode};
+use peg_tree::{Parsed, RuleSet, Tree, TreeNode};
 use std::alloc::{AllocError, Global};
 use std::test::Fail;
 
@@ -18,22 +18,26 @@ const FILE: &[u8] = b"S <- A B / A C\nA <- 'a' D\nB <- 'x'\nC <- 'y' D\nD <- 'd'
 
 const TEXT: &[u8] = b"addydd";
 
-// The program of the file that shows two rules; a number beyond the rules shows none.
-fn program_showing(alloc: Global, first: u32, second: u32) -> Result<Program, Fail> {
+// The program of the file, which shows all rules.
+fn program_of_file(alloc: Global) -> Result<Program, Fail> {
     let grammar = Grammar::new(alloc, read(alloc, FILE)?)?;
-    let program = match check(alloc, desugar(alloc, &grammar)?) {
-        Ok(checked) => compile(alloc, checked)?,
-        Err(CheckFault::Memory) => return Err(Fail::from(AllocError)),
-        Err(_) => return Err("a grammar that isn't well-formed".into()),
-    };
-    let mut rules = RuleSet::none(alloc, program.rules())?;
-    if first < program.rules() {
-        rules.insert(first);
+    match check(alloc, desugar(alloc, &grammar)?) {
+        Ok(checked) => Ok(compile(alloc, checked)?),
+        Err(CheckFault::Memory) => Err(Fail::from(AllocError)),
+        Err(_) => Err("a grammar that isn't well-formed".into()),
     }
-    if second < program.rules() {
-        rules.insert(second);
+}
+
+// The set of two rules; a number beyond the rules adds none.
+fn set_of(alloc: Global, rules: u32, first: u32, second: u32) -> Result<RuleSet, AllocError> {
+    let mut set = RuleSet::none(alloc, rules)?;
+    if first < rules {
+        set.insert(first);
     }
-    Ok(program.showing(rules))
+    if second < rules {
+        set.insert(second);
+    }
+    Ok(set)
 }
 
 // A node: its rule, its start and end, and its size.
@@ -43,19 +47,28 @@ fn is_node(node: &TreeNode, wanted: &Node) -> bool {
     (node.rule, node.span.start, node.span.end, node.size) == *wanted
 }
 
+fn are_nodes(tree: &Tree, wanted: &[Node]) -> bool {
+    tree.nodes().len() == wanted.len()
+        && tree
+            .nodes()
+            .iter()
+            .zip(wanted)
+            .all(|(node, wanted)| is_node(node, wanted))
+}
+
 // Whether the text matches as a whole, with these nodes.
 fn has_nodes(answer: &Answer, wanted: &[Node]) -> bool {
     match &answer.outcome.result {
-        Parsed::Matched { end, tree } => {
-            *end == 6
-                && tree.nodes().len() == wanted.len()
-                && tree
-                    .nodes()
-                    .iter()
-                    .zip(wanted)
-                    .all(|(node, wanted)| is_node(node, wanted))
-        }
+        Parsed::Matched { end, tree } => *end == 6 && are_nodes(tree, wanted),
         Parsed::Failed => false,
+    }
+}
+
+// Whether these nodes are selected from the tree of all nodes.
+fn selects(alloc: Global, whole: &Answer, set: &RuleSet, wanted: &[Node]) -> Result<bool, Fail> {
+    match &whole.outcome.result {
+        Parsed::Matched { tree, .. } => Ok(are_nodes(&tree.select(alloc, set)?, wanted)),
+        Parsed::Failed => Ok(false),
     }
 }
 
@@ -116,10 +129,18 @@ fn a_run_makes_the_nodes_of_the_rules_that_are_shown(rt: HostRuntime) -> Result<
         ),
     ];
     for (first, second, wanted) in cases {
-        let program = program_showing(rt.alloc(), first, second)?;
+        let program = program_of_file(rt.alloc())?;
         assert!(rt; program.rules() > 0);
+        let whole = run_plain(rt.alloc(), &program)?;
+        let set = set_of(rt.alloc(), program.rules(), first, second)?;
         assert!(rt;
-            each_makes(rt.alloc(), &program, wanted)?,
+            selects(rt.alloc(), &whole, &set, wanted)?,
+            "selecting {first} and {second}"
+        );
+        let shown = program.showing(Some(set));
+        assert!(rt; shown.rules() > 0);
+        assert!(rt;
+            each_makes(rt.alloc(), &shown, wanted)?,
             "{first} and {second}"
         );
     }

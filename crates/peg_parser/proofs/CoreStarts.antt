@@ -1,6 +1,6 @@
 -- The outcome of a rule's core form is that of Ford's relation on the grammar as written, from the rule's name.
 use Rattle.std.proofs.Common.{◌≡◌, ◌≢◌, ℕ, zero, suc, ◌+◌, ◌<◌, AllPairs, Bool, true, false, if◌then◌else◌, List, [], ◌∷◌}
-use Rattle.std.proofs.Common.{length, Option, None, Some, option_map, unwrap_or, bytes_eq, refl, sym, ap, subst, ◌∙◌}
+use Rattle.std.proofs.Common.{length, Option, Some, option_map, unwrap_or, bytes_eq, refl, sym, ap, subst, ◌∙◌}
 use Rattle.std.proofs.Common.{add-zero, zero-add, arith}
 use Rattle.std.proofs.lemmas.Bool.{false_from_ne_true}
 use Rattle.std.proofs.lemmas.List.{length-map}
@@ -21,9 +21,9 @@ use Rattle.peg_semantics.specs.Grammar.{IsGrammar}
 use Rattle.peg_semantics.specs.Rules.{Meaning, Rule, meaning_from, name_of, names}
 use Rattle.peg_machine.specs.SelectedTests.{IsCoreOutcomeBy}
 use Rattle.peg_tree.specs.declared.outcome.Outcome.{Outcome}
-use Rattle.peg_parser.specs.Parser.{parser_rules}
+use Rattle.peg_parser.specs.Engine.{engine_rules, shown_in}
 use Rattle.peg_parser.specs.SelectedOutcomes.{IsParseOutcomeBy}
-use Rattle.peg_parser.specs.declared.parser.Parser.{Parser}
+use Rattle.peg_parser.specs.declared.engine.Engine.{Engine}
 use Rattle.peg_parser.proofs.RuleNames.{name-numbered}
 
 -- names that are pairwise distinct
@@ -67,29 +67,29 @@ number_of-named rules start less grammar =
 -- ---- facts about a parser's program
 
 -- the program's core forms are the grammar's
-pub same-bodies : (parser : Parser) → bodies_of parser.program.core ≡ core_bodies (parser_rules parser)
-same-bodies parser = ∥∥₁_elim parser.bodies (Coded-set (coded_list form_code) _ _) (λ same. same)
+pub same-bodies : (engine : Engine) → bodies_of engine.program.core ≡ core_bodies (engine_rules engine)
+same-bodies engine = ∥∥₁_elim engine.bodies (Coded-set (coded_list form_code) _ _) (λ same. same)
 
 -- there are as many core forms as rules
-pub length-bodies : (parser : Parser) → length parser.program.core.bodies ≡ length (parser_rules parser)
-length-bodies parser =
-    sym (length-map parser.program.core.bodies (form_at parser.program.core.forms))
-    ∙ ap length (same-bodies parser) ∙ length-core_bodies (parser_rules parser)
+pub length-bodies : (engine : Engine) → length engine.program.core.bodies ≡ length (engine_rules engine)
+length-bodies engine =
+    sym (length-map engine.program.core.bodies (form_at engine.program.core.forms))
+    ∙ ap length (same-bodies engine) ∙ length-core_bodies (engine_rules engine)
 
 -- the name of a parser's rule has that rule's number
-pub number-named : (parser : Parser) (start : ℕ) → start < length (parser_rules parser)
-    → number_of (parser_rules parser) (name_of (parser_rules parser) start) ≡ start
-number-named parser start less =
-    ∥∥₁_elim parser.grammar.grammar (ℕ_set _ _) (number_of-named (parser_rules parser) start less)
+pub number-named : (engine : Engine) (start : ℕ) → start < length (engine_rules engine)
+    → number_of (engine_rules engine) (name_of (engine_rules engine) start) ≡ start
+number-named engine start less =
+    ∥∥₁_elim engine.grammar.grammar (ℕ_set _ _) (number_of-named (engine_rules engine) start less)
 
 -- ---- outcomes
 
 -- the outcome of a rule's call on core forms is that of the rule's name
-written-outcome : (among : Option (List ℕ)) (rules : List Rule) (text : List ℕ) (start : ℕ) (outcome : Outcome)
-    → AreBytes text → number_of rules (name_of rules start) ≡ start
-    → IsCoreOutcomeBy None among (core_bodies rules) text start outcome
-    → IsParseOutcomeBy among rules text (name_of rules start) outcome
-written-outcome among rules text start outcome bytes same is =
+written-outcome : (shown : Option (List Bool)) (among : Option (List ℕ)) (rules : List Rule) (text : List ℕ) (start : ℕ)
+    (outcome : Outcome) → AreBytes text → number_of rules (name_of rules start) ≡ start
+    → IsCoreOutcomeBy shown among (core_bodies rules) text start outcome
+    → IsParseOutcomeBy shown among rules text (name_of rules start) outcome
+written-outcome shown among rules text start outcome bytes same is =
     let held = is.1 in
     let name : Form = Name (name_of rules start) (between 0 0) in
     let there : IsCoreRecord (core_bodies rules) text (core_form rules 0 name) 0 held.0 =
@@ -98,11 +98,11 @@ written-outcome among rules text start outcome bytes same is =
     (found.0, (held.0, found.1, held.2, held.3))
 
 -- the result of a parser's program on a text is the outcome of the grammar as written
-pub parser-outcome : (among : Option (List ℕ)) (parser : Parser) (text : List ℕ) (start : ℕ) (outcome : Outcome)
-    → AreBytes text → start < length (parser_rules parser)
-    → IsCoreOutcomeBy None among (bodies_of parser.program.core) text start outcome
-    → IsParseOutcomeBy among (parser_rules parser) text (name_of (parser_rules parser) start) outcome
-parser-outcome among parser text start outcome bytes less is =
-    let rules = parser_rules parser in
-    written-outcome among rules text start outcome bytes (number-named parser start less)
-    (subst (λ (bodies : List CoreForm). IsCoreOutcomeBy None among bodies text start outcome) (same-bodies parser) is)
+pub engine-outcome : (among : Option (List ℕ)) (engine : Engine) (text : List ℕ) (start : ℕ) (outcome : Outcome)
+    → AreBytes text → start < length (engine_rules engine)
+    → IsCoreOutcomeBy (shown_in engine) among (bodies_of engine.program.core) text start outcome
+    → IsParseOutcomeBy (shown_in engine) among (engine_rules engine) text (name_of (engine_rules engine) start) outcome
+engine-outcome among engine text start outcome bytes less is =
+    let rules = engine_rules engine in
+    written-outcome (shown_in engine) among rules text start outcome bytes (number-named engine start less)
+    (subst (λ (bodies : List CoreForm). IsCoreOutcomeBy (shown_in engine) among bodies text start outcome) (same-bodies engine) is)

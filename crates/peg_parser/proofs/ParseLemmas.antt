@@ -16,14 +16,15 @@ use Rattle.peg_machine.specs.declared.fault.RunFault.{RunFault}
 use Rattle.peg_machine.specs.declared.fault.RunFault.TheVariants as run
 use Rattle.peg_parser.specs.Calls.{IsSumOfSteps}
 use Rattle.peg_parser.specs.ParseContract.{HasParseFaults, HasParseSteps, HasStepLimit, IsParse}
-use Rattle.peg_parser.specs.Parser.{parser_rules}
+use Rattle.peg_parser.specs.Engine.{engine_rules, shown_in}
 use Rattle.peg_parser.specs.SelectedOutcomes.{IsParseOutcomeBy}
 use Rattle.peg_parser.specs.declared.parser.ParseFault.{ParseFault}
 use Rattle.peg_parser.specs.declared.parser.ParseFault.TheVariants.{NoSuchStart, TextTooLong, StepLimit, Memory}
-use Rattle.peg_parser.specs.declared.parser.Parser.{Parser}
-use Rattle.peg_parser.proofs.CoreStarts.{parser-outcome, same-bodies}
+use Rattle.peg_parser.specs.declared.engine.Engine.{Engine}
+use Rattle.peg_parser.proofs.CoreStarts.{engine-outcome, same-bodies}
+use Rattle.peg_parser.proofs.OutcomeFits.{SelectedFits}
 use Rattle.peg_parser.proofs.StepLemmas.{of-program, of-start, plain-steps, to-program, to-start}
-use Rattle.peg_parser.proofs.TraceLemmas.{answer-fits, parser-calls, parser-steps}
+use Rattle.peg_parser.proofs.TraceLemmas.{answer-fits, engine-calls, engine-steps}
 
 -- ---- results
 
@@ -86,77 +87,77 @@ short_of_run text (Ok answer) long = by (cases_lt max_text_bytes (length text))
     by (inr short) = short
 short_of_run text (Err fault) long = tt
 
-module _ (among : Option (List ℕ)) (parser : Parser) (text : List ℕ) (start : ℕ) (named : Option (List ℕ))
+module _ (among : Option (List ℕ)) (engine : Engine) (text : List ℕ) (start : ℕ) (named : Option (List ℕ))
     (max_steps : Option ℕ) (is_plain : Type 0) (capacity : ℕ) (allocation_failed : Bool)
-    (gets : List RuleCall → Type 0) (less : start < length (parser_rules parser))
-    (found : start_name (parser_rules parser) named ≡ Some (name_of (parser_rules parser) start)) where
+    (gets : List RuleCall → Type 0) (less : start < length (engine_rules engine))
+    (found : start_name (engine_rules engine) named ≡ Some (name_of (engine_rules engine) start)) where
   limit_of_run : (result : Result Answer RunFault)
-      → IsRun None among (bodies_of parser.program.core) text start max_steps is_plain capacity allocation_failed gets result
-      → HasStepLimit (parser_rules parser) text named is_plain max_steps (result_of result)
+      → IsRun (shown_in engine) among (bodies_of engine.program.core) text start max_steps is_plain capacity allocation_failed gets result
+      → HasStepLimit (engine_rules engine) text named is_plain max_steps (result_of result)
   limit_of_run (Ok answer) is = record {
     limited = λ limit. absurd (let no : ⊥ = cc in no);
-    enough = λ plain more. is.enough plain (to-program parser text start max_steps
-        (to-start parser text named start max_steps less found more));
+    enough = λ plain more. is.enough plain (to-program engine text start max_steps
+        (to-start engine text named start max_steps less found more));
   }
   limit_of_run (Err fault) is = record {
-    limited = λ limit. of-start parser text named start max_steps less found
-        (of-program parser text start max_steps (is.limited (met_limit fault limit)));
+    limited = λ limit. of-start engine text named start max_steps less found
+        (of-program engine text start max_steps (is.limited (met_limit fault limit)));
     enough = λ plain. tt;
   }
 
   -- the steps of an answer are those of the calls that were made
   own_of_run : (answer : Answer) → AreBytes text
-      → IsRun None among (bodies_of parser.program.core) text start max_steps is_plain capacity allocation_failed gets (Ok answer)
-      → IsSumOfSteps (parser_rules parser) text (name_of (parser_rules parser) start) answer
+      → IsRun (shown_in engine) among (bodies_of engine.program.core) text start max_steps is_plain capacity allocation_failed gets (Ok answer)
+      → IsSumOfSteps (engine_rules engine) text (name_of (engine_rules engine) start) answer
   own_of_run answer bytes is =
       let traced = is.traced.2 in record {
         calls = is.traced.0;
-        of_record = parser-calls among parser text start answer.outcome is.traced.0 bytes less is.outcome traced.visited;
-        steps = parser-steps parser text start capacity allocation_failed answer is.traced.0 traced;
+        of_record = engine-calls among engine text start answer.outcome is.traced.0 bytes less is.outcome traced.visited;
+        steps = engine-steps engine text start capacity allocation_failed answer is.traced.0 traced;
       }
 
   steps_of_run : (result : Result Answer RunFault) → AreBytes text
-      → IsRun None among (bodies_of parser.program.core) text start max_steps is_plain capacity allocation_failed gets result
-      → HasParseSteps (parser_rules parser) text named is_plain max_steps (result_of result)
+      → IsRun (shown_in engine) among (bodies_of engine.program.core) text start max_steps is_plain capacity allocation_failed gets result
+      → HasParseSteps (engine_rules engine) text named is_plain max_steps (result_of result)
   steps_of_run (Ok answer) bytes is = record {
     allowed = is.allowed;
-    plain = plain-steps parser text named start (λ answer count. answer.steps ≤ count) less found (Ok answer)
+    plain = plain-steps engine text named start (λ answer count. answer.steps ≤ count) less found (Ok answer)
         (subst (λ (bodies : List CoreForm). (count : ℕ) × TakesSteps bodies text start count × (answer.steps ≤ count))
-        (same-bodies parser) is.steps);
-    exact = λ plain. plain-steps parser text named start (λ answer count. answer.steps ≡ saturated count) less found
+        (same-bodies engine) is.steps);
+    exact = λ plain. plain-steps engine text named start (λ answer count. answer.steps ≡ saturated count) less found
         (Ok answer) (subst (λ (bodies : List CoreForm). (count : ℕ) × TakesSteps bodies text start count
-        × (answer.steps ≡ saturated count)) (same-bodies parser) (is.exact plain));
-    own = subst (λ (found : Option (List ℕ)). IfSome found (λ start. IsSumOfSteps (parser_rules parser) text start answer))
+        × (answer.steps ≡ saturated count)) (same-bodies engine) (is.exact plain));
+    own = subst (λ (found : Option (List ℕ)). IfSome found (λ start. IsSumOfSteps (engine_rules engine) text start answer))
         (sym found) (own_of_run answer bytes is);
   }
   steps_of_run (Err fault) bytes is = record { allowed = tt; plain = tt; exact = λ plain. tt; own = tt }
 
   outcome_of_run : (result : Result Answer RunFault) → AreBytes text
-      → IsRun None among (bodies_of parser.program.core) text start max_steps is_plain capacity allocation_failed gets result
+      → IsRun (shown_in engine) among (bodies_of engine.program.core) text start max_steps is_plain capacity allocation_failed gets result
       → IfOk (result_of result) (λ answer.
-      IsParseOutcomeBy among (parser_rules parser) text (name_of (parser_rules parser) start) answer.outcome)
-  outcome_of_run (Ok answer) bytes is = parser-outcome among parser text start answer.outcome bytes less is.outcome
+      IsParseOutcomeBy (shown_in engine) among (engine_rules engine) text (name_of (engine_rules engine) start) answer.outcome)
+  outcome_of_run (Ok answer) bytes is = engine-outcome among engine text start answer.outcome bytes less is.outcome
   outcome_of_run (Err fault) bytes is = tt
 
   -- the outcome from the rule is that from its name
   named_outcome : (result : Result Answer ParseFault) → IfOk result (λ answer.
-      IsParseOutcomeBy among (parser_rules parser) text (name_of (parser_rules parser) start) answer.outcome)
-      → IfOk result (λ answer. IfSome (start_name (parser_rules parser) named)
-      (λ start. IsParseOutcomeBy among (parser_rules parser) text start answer.outcome))
+      IsParseOutcomeBy (shown_in engine) among (engine_rules engine) text (name_of (engine_rules engine) start) answer.outcome)
+      → IfOk result (λ answer. IfSome (start_name (engine_rules engine) named)
+      (λ start. IsParseOutcomeBy (shown_in engine) among (engine_rules engine) text start answer.outcome))
   named_outcome (Ok answer) is =
-      subst (λ (found : Option (List ℕ)). IfSome found (λ start. IsParseOutcomeBy among (parser_rules parser) text start
+      subst (λ (found : Option (List ℕ)). IfSome found (λ start. IsParseOutcomeBy (shown_in engine) among (engine_rules engine) text start
       answer.outcome)) (sym found) is
   named_outcome (Err fault) is = tt
 
-  pub parse_of_run : (result : Result Answer RunFault) → AreBytes text
-      → IsRun None among (bodies_of parser.program.core) text start max_steps is_plain capacity allocation_failed gets result
-      → IsParse among (parser_rules parser) text named is_plain max_steps (result_of result)
-  parse_of_run result bytes is =
+  pub parse_of_run : SelectedFits → (result : Result Answer RunFault) → AreBytes text
+      → IsRun (shown_in engine) among (bodies_of engine.program.core) text start max_steps is_plain capacity allocation_failed gets result
+      → IsParse (shown_in engine) among (engine_rules engine) text named is_plain max_steps (result_of result)
+  parse_of_run fit result bytes is =
       let outcome = outcome_of_run result bytes is in record {
-        faults = faults_of_run (parser_rules parser) text named (name_of (parser_rules parser) start) result found is.long;
+        faults = faults_of_run (engine_rules engine) text named (name_of (engine_rules engine) start) result found is.long;
         short = short_of_run text result is.long;
         outcome = named_outcome (result_of result) outcome;
-        fits = answer-fits among parser text start (result_of result) outcome;
+        fits = answer-fits fit among engine text start (result_of result) outcome;
         limit = limit_of_run result is;
         steps = steps_of_run result bytes is;
       }
@@ -164,10 +165,10 @@ module _ (among : Option (List ℕ)) (parser : Parser) (text : List ℕ) (start 
 -- ---- parses without a run
 
 -- a start that no rule has
-pub parse_without_start : (among : Option (List ℕ)) (rules : List Rule) (text : List ℕ) (named : Option (List ℕ))
+pub parse_without_start : (shown : Option (List Bool)) (among : Option (List ℕ)) (rules : List Rule) (text : List ℕ) (named : Option (List ℕ))
     (is_plain : Type 0) (max_steps : Option ℕ) → start_name rules named ≡ None
-    → IsParse among rules text named is_plain max_steps (Err NoSuchStart)
-parse_without_start among rules text named is_plain max_steps none = record {
+    → IsParse shown among rules text named is_plain max_steps (Err NoSuchStart)
+parse_without_start shown among rules text named is_plain max_steps none = record {
   faults = record {
     no_start = ((λ _. none), λ _. refl);
     long = λ start found. absurd (found_start rules named start found none);
@@ -180,10 +181,10 @@ parse_without_start among rules text named is_plain max_steps none = record {
 }
 
 -- a text that is too long
-pub parse_of_long_text : (among : Option (List ℕ)) (rules : List Rule) (text : List ℕ) (named : Option (List ℕ))
+pub parse_of_long_text : (shown : Option (List Bool)) (among : Option (List ℕ)) (rules : List Rule) (text : List ℕ) (named : Option (List ℕ))
     (is_plain : Type 0) (max_steps : Option ℕ) (start : List ℕ) → start_name rules named ≡ Some start
-    → max_text_bytes < length text → IsParse among rules text named is_plain max_steps (Err TextTooLong)
-parse_of_long_text among rules text named is_plain max_steps start found more = record {
+    → max_text_bytes < length text → IsParse shown among rules text named is_plain max_steps (Err TextTooLong)
+parse_of_long_text shown among rules text named is_plain max_steps start found more = record {
   faults = record {
     no_start = ((λ is. absurd (let no : ⊥ = cc in no)), λ none. absurd (found_start rules named start found none));
     long = λ other is. ((λ _. more), λ _. refl);
@@ -197,11 +198,11 @@ parse_of_long_text among rules text named is_plain max_steps start found more = 
 
 -- ---- other conditions
 
-module _ (among : Option (List ℕ)) (rules : List Rule) (text : List ℕ) (named : Option (List ℕ)) where
+module _ (shown : Option (List Bool)) (among : Option (List ℕ)) (rules : List Rule) (text : List ℕ) (named : Option (List ℕ)) where
   -- a parse without a memo, if one without entries is meant
   pub parse_if_plain : {is_plain is_empty : Type 0} (max_steps : Option ℕ) (result : Result Answer ParseFault)
-      → (is_empty → is_plain) → IsParse among rules text named is_plain max_steps result
-      → IsParse among rules text named is_empty max_steps result
+      → (is_empty → is_plain) → IsParse shown among rules text named is_plain max_steps result
+      → IsParse shown among rules text named is_empty max_steps result
   parse_if_plain max_steps result plain is = record {
     faults = is.faults;
     short = is.short;
@@ -220,8 +221,8 @@ module _ (among : Option (List ℕ)) (rules : List Rule) (text : List ℕ) (name
   pub parse_within : {is_plain is_empty : Type 0} (within : ℕ) (max_steps : Option ℕ)
       (result : Result Answer ParseFault) → ¬ is_empty → ¬ IsErrOf result StepLimit
       → ((limit : ℕ) → max_steps ≡ Some limit → within ≤ limit)
-      → IsParse among rules text named is_plain (Some within) result
-      → IsParse among rules text named is_empty max_steps result
+      → IsParse shown among rules text named is_plain (Some within) result
+      → IsParse shown among rules text named is_empty max_steps result
   parse_within within max_steps result memo unmet least is = record {
     faults = is.faults;
     short = is.short;

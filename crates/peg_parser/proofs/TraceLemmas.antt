@@ -20,10 +20,10 @@ use Rattle.peg_machine.specs.declared.answer.Answer.{Answer}
 use Rattle.peg_parser.specs.Calls.{AreCallsOf, AreCallsSoFar, AreFirstCalls, AreStepsOf, TracesCallsInOrder}
 use Rattle.peg_parser.specs.SelectedOutcomes.{FitsBy, IsParseOutcomeBy}
 use Rattle.peg_parser.specs.declared.parser.ParseFault.{ParseFault}
-use Rattle.peg_parser.specs.Parser.{parser_rules}
-use Rattle.peg_parser.specs.declared.parser.Parser.{Parser}
+use Rattle.peg_parser.specs.Engine.{engine_rules, shown_in}
+use Rattle.peg_parser.specs.declared.engine.Engine.{Engine}
 use Rattle.peg_parser.proofs.CoreStarts.{number-named, same-bodies}
-use Rattle.peg_parser.proofs.OutcomeFits.{outcome-fits, outcome-fits_among}
+use Rattle.peg_parser.proofs.OutcomeFits.{SelectedFits, outcome-fits, outcome-fits_among}
 
 -- the calls are those of the rule's record on core forms
 abbrev AreVisitedCalls : List CoreForm → List ℕ → (start : ℕ) → List RuleCall → Type 0
@@ -46,89 +46,92 @@ written-calls rules text start r calls bytes named here visited =
     from call has = (visited call).1 (here.0, r, here.1, has)
 
 -- the calls of a run of a parser's program
-pub parser-calls : (among : Option (List ℕ)) (parser : Parser) (text : List ℕ) (start : ℕ) (outcome : Outcome)
-    (calls : List RuleCall) → AreBytes text → start < length (parser_rules parser)
-    → IsCoreOutcomeBy None among (bodies_of parser.program.core) text start outcome
-    → AreVisitedCalls (bodies_of parser.program.core) text start calls
-    → AreCallsOf (parser_rules parser) text (name_of (parser_rules parser) start) calls
-parser-calls among parser text start outcome calls bytes less is visited =
-    let rules = parser_rules parser in
-    let held = subst (λ (bodies : List CoreForm). IsCoreOutcomeBy None among bodies text start outcome) (same-bodies parser) is in
+pub engine-calls : (among : Option (List ℕ)) (engine : Engine) (text : List ℕ) (start : ℕ) (outcome : Outcome)
+    (calls : List RuleCall) → AreBytes text → start < length (engine_rules engine)
+    → IsCoreOutcomeBy (shown_in engine) among (bodies_of engine.program.core) text start outcome
+    → AreVisitedCalls (bodies_of engine.program.core) text start calls
+    → AreCallsOf (engine_rules engine) text (name_of (engine_rules engine) start) calls
+engine-calls among engine text start outcome calls bytes less is visited =
+    let rules = engine_rules engine in
+    let held = subst (λ (bodies : List CoreForm). IsCoreOutcomeBy (shown_in engine) among bodies text start outcome) (same-bodies engine) is in
     let r = held.1.0 in
     let named : IsCoreRecord (core_bodies rules) text (core_form rules 0 (Name (name_of rules start) (between 0 0))) 0 r =
-    (held.0, ap (λ (rule : ℕ). core_record_in (core_bodies rules) text held.0 (use_of rule) 0) (number-named parser start less) ∙ held.1.1) in
+    (held.0, ap (λ (rule : ℕ). core_record_in (core_bodies rules) text held.0 (use_of rule) 0) (number-named engine start less) ∙ held.1.1) in
     written-calls rules text start r calls bytes named (held.0, held.1.1)
-    (subst (λ (bodies : List CoreForm). AreVisitedCalls bodies text start calls) (same-bodies parser) visited)
+    (subst (λ (bodies : List CoreForm). AreVisitedCalls bodies text start calls) (same-bodies engine) visited)
 
 -- the steps of a run's answer are those of the bodies of its calls
-pub parser-steps : (parser : Parser) (text : List ℕ) (start capacity : ℕ) (allocation_failed : Bool) (answer : Answer)
+pub engine-steps : (engine : Engine) (text : List ℕ) (start capacity : ℕ) (allocation_failed : Bool) (answer : Answer)
     (calls : List RuleCall)
-    → HasTraced (bodies_of parser.program.core) text start capacity allocation_failed answer calls
-    → AreStepsOf (parser_rules parser) text calls answer.outcome.result answer.steps
-parser-steps parser text start capacity allocation_failed answer calls traced = (
+    → HasTraced (bodies_of engine.program.core) text start capacity allocation_failed answer calls
+    → AreStepsOf (engine_rules engine) text calls answer.outcome.result answer.steps
+engine-steps engine text start capacity allocation_failed answer calls traced = (
   traced.own,
-  subst (λ (bodies : List CoreForm). OwnSteps bodies text calls traced.own) (same-bodies parser) traced.own_steps,
+  subst (λ (bodies : List CoreForm). OwnSteps bodies text calls traced.own) (same-bodies engine) traced.own_steps,
   traced.steps,
 )
 
 -- the record of a rule on core forms is Ford's record from the rule's name
-recognized : (parser : Parser) (text : List ℕ) (start n : ℕ) (r : Record) → AreBytes text
-    → start < length (parser_rules parser)
-    → core_record_in (core_bodies (parser_rules parser)) text n (use_of start) 0 ≡ Some r
-    → Recognizes (parser_rules parser) text (name_of (parser_rules parser) start) r
-recognized parser text start n r bytes less is =
-    let rules = parser_rules parser in
+recognized : (engine : Engine) (text : List ℕ) (start n : ℕ) (r : Record) → AreBytes text
+    → start < length (engine_rules engine)
+    → core_record_in (core_bodies (engine_rules engine)) text n (use_of start) 0 ≡ Some r
+    → Recognizes (engine_rules engine) text (name_of (engine_rules engine) start) r
+recognized engine text start n r bytes less is =
+    let rules = engine_rules engine in
     let named : IsCoreRecord (core_bodies rules) text (core_form rules 0 (Name (name_of rules start) (between 0 0))) 0 r =
-    (n, ap (λ (rule : ℕ). core_record_in (core_bodies rules) text n (use_of rule) 0) (number-named parser start less) ∙ is) in
+    (n, ap (λ (rule : ℕ). core_record_in (core_bodies rules) text n (use_of rule) 0) (number-named engine start less) ∙ is) in
     IsRecord-from_core rules text bytes (Name (name_of rules start) (between 0 0)) 0 0 r named
 
 -- a tracer that got the calls of the rule's record on core forms got those of Ford's record, in the same order
-pub parser-calls-in-order : (parser : Parser) (text : List ℕ) (start : ℕ) (gets : List RuleCall → Type 0)
-    → AreBytes text → start < length (parser_rules parser)
-    → TracesInOrder (bodies_of parser.program.core) text start gets
-    → TracesCallsInOrder (parser_rules parser) text (name_of (parser_rules parser) start) gets
-parser-calls-in-order parser text start gets bytes less is =
-    let held = subst (λ (bodies : List CoreForm). TracesInOrder bodies text start gets) (same-bodies parser) is in
-    (held.1, recognized parser text start held.0 held.1 bytes less held.2, held.3)
+pub engine-calls-in-order : (engine : Engine) (text : List ℕ) (start : ℕ) (gets : List RuleCall → Type 0)
+    → AreBytes text → start < length (engine_rules engine)
+    → TracesInOrder (bodies_of engine.program.core) text start gets
+    → TracesCallsInOrder (engine_rules engine) text (name_of (engine_rules engine) start) gets
+engine-calls-in-order engine text start gets bytes less is =
+    let held = subst (λ (bodies : List CoreForm). TracesInOrder bodies text start gets) (same-bodies engine) is in
+    (held.1, recognized engine text start held.0 held.1 bytes less held.2, held.3)
 
 -- the calls of a run that was stopped are calls of Ford's record
-pub parser-calls-so-far : (parser : Parser) (text : List ℕ) (start : ℕ) (max_steps : Option ℕ) (calls : List RuleCall)
-    → AreBytes text → start < length (parser_rules parser)
-    → HasTracedSoFar (bodies_of parser.program.core) text start max_steps StepLimit calls
-    → AreCallsSoFar (parser_rules parser) text (name_of (parser_rules parser) start) max_steps calls
-parser-calls-so-far parser text start max_steps calls bytes less is =
-    let rules = parser_rules parser in
+pub engine-calls-so-far : (engine : Engine) (text : List ℕ) (start : ℕ) (max_steps : Option ℕ) (calls : List RuleCall)
+    → AreBytes text → start < length (engine_rules engine)
+    → HasTracedSoFar (bodies_of engine.program.core) text start max_steps StepLimit calls
+    → AreCallsSoFar (engine_rules engine) text (name_of (engine_rules engine) start) max_steps calls
+engine-calls-so-far engine text start max_steps calls bytes less is =
+    let rules = engine_rules engine in
     let held = subst (λ (bodies : List CoreForm). HasTracedSoFar bodies text start max_steps StepLimit calls)
-    (same-bodies parser) is in
+    (same-bodies engine) is in
     let limited = held.limited refl in
     record {
       of_record = λ call has.
           let there = held.visited call has in
-          (there.1, recognized parser text start there.0 there.1 bytes less there.2, there.3);
+          (there.1, recognized engine text start there.0 there.1 bytes less there.2, there.3);
       limit = limited.0;
       own = limited.1;
       asked = limited.2;
       own_steps = limited.3;
       exceed = subst (λ (n : ℕ). OwnStepsExceed (core_bodies rules) text n limited.0 limited.1)
-          (sym (number-named parser start less)) limited.4;
+          (sym (number-named engine start less)) limited.4;
     }
 
 -- without a memo they are its first calls, in order
-pub parser-first-calls : (parser : Parser) (text : List ℕ) (start : ℕ) (max_steps : Option ℕ) (calls : List RuleCall)
-    → AreBytes text → start < length (parser_rules parser)
-    → HasTracedFirst (bodies_of parser.program.core) text start max_steps calls
-    → AreFirstCalls (parser_rules parser) text (name_of (parser_rules parser) start) calls
-parser-first-calls parser text start max_steps calls bytes less is =
-    let held = subst (λ (bodies : List CoreForm). HasTracedFirst bodies text start max_steps calls) (same-bodies parser) is in
-    (held.r, held.later, recognized parser text start held.n held.r bytes less held.recorded, held.first)
+pub engine-first-calls : (engine : Engine) (text : List ℕ) (start : ℕ) (max_steps : Option ℕ) (calls : List RuleCall)
+    → AreBytes text → start < length (engine_rules engine)
+    → HasTracedFirst (bodies_of engine.program.core) text start max_steps calls
+    → AreFirstCalls (engine_rules engine) text (name_of (engine_rules engine) start) calls
+engine-first-calls engine text start max_steps calls bytes less is =
+    let held = subst (λ (bodies : List CoreForm). HasTracedFirst bodies text start max_steps calls) (same-bodies engine) is in
+    (held.r, held.later, recognized engine text start held.n held.r bytes less held.recorded, held.first)
 
 -- the outcome of an answer fits the grammar
-pub answer-fits : (among : Option (List ℕ)) (parser : Parser) (text : List ℕ) (start : ℕ)
+pub answer-fits : SelectedFits → (among : Option (List ℕ)) (engine : Engine) (text : List ℕ) (start : ℕ)
     (result : Result Answer ParseFault)
-    → IfOk result (λ answer. IsParseOutcomeBy among (parser_rules parser) text (name_of (parser_rules parser) start) answer.outcome)
-    → IfOk result (λ answer. FitsBy among (parser_rules parser) answer.outcome)
-answer-fits None parser text start (Ok answer) is =
-    let rules = parser_rules parser in outcome-fits rules text (name_of rules start) answer.outcome is
-answer-fits (Some terminals) parser text start (Ok answer) is =
-    let rules = parser_rules parser in outcome-fits_among rules terminals text (name_of rules start) answer.outcome is
-answer-fits among parser text start (Err fault) is = tt
+    → IfOk result (λ answer. IsParseOutcomeBy (shown_in engine) among (engine_rules engine) text
+    (name_of (engine_rules engine) start) answer.outcome)
+    → IfOk result (λ answer. FitsBy among (engine_rules engine) answer.outcome)
+answer-fits fit None engine text start (Ok answer) is =
+    let rules = engine_rules engine in
+    outcome-fits fit (shown_in engine) rules text (name_of rules start) answer.outcome is
+answer-fits fit (Some terminals) engine text start (Ok answer) is =
+    let rules = engine_rules engine in
+    outcome-fits_among fit (shown_in engine) rules terminals text (name_of rules start) answer.outcome is
+answer-fits fit among engine text start (Err fault) is = tt

@@ -27,6 +27,7 @@ pub use Rattle.peg_tree.specs.Nodes
 pub mod Accepts
 pub mod Calls
 pub mod Cause
+pub mod Engine
 pub mod Faults
 pub mod Fits
 pub mod GrammarRefusals
@@ -36,4 +37,5 @@ pub mod ProgramOf
 pub mod ReadsByFigure
 pub mod Refusals
 pub mod SelectedOutcomes
+pub mod ShowsNone
 pub mod StepLimits

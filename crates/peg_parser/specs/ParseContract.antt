@@ -1,5 +1,5 @@
 -- What a parse of a text promises (Ford 2004, section 3.3).
-use Rattle.std.specs.Prelude.{◌≡◌, ◌<◌, ◌≤◌, ◌↔◌, ℕ, IfOk, IfSome, IsErrOf, List, None, OnOk, Option, Result, Some, length}
+use Rattle.std.specs.Prelude.{◌≡◌, ◌<◌, ◌≤◌, ◌↔◌, ℕ, Bool, IfOk, IfSome, IsErrOf, List, None, OnOk, Option, Result, Some, length}
 use Rattle.peg_grammar.specs.Limits.{max_text_bytes}
 use Rattle.peg_machine.specs.CoreOutcome.{saturated}
 use Rattle.peg_machine.specs.declared.answer.Answer.{Answer}
@@ -38,14 +38,16 @@ pub record HasParseSteps (rules : List Rule) (text : List ℕ) (named : Option (
   -- with a memo, too, they are the steps of a list of calls, which as a set are those of the record
   pub own : IfOk result (λ answer. IfSome (start_name rules named) (λ start. IsSumOfSteps rules text start answer))
 
--- The result of a parse from a start. `among` has the terminals whose failures count, or is `None` for all.
-pub record IsParse (among : Option (List ℕ)) (rules : List Rule) (text : List ℕ) (named : Option (List ℕ))
-    (is_plain : Type 0) (max_steps : Option ℕ) (result : Result Answer ParseFault) : Type 0 where
+-- The result of a parse from a start. `shown` has the rules whose matches have nodes, or is `None` for all. `among` has
+-- the terminals whose failures count, or is `None` for all.
+pub record IsParse (shown : Option (List Bool)) (among : Option (List ℕ)) (rules : List Rule) (text : List ℕ)
+    (named : Option (List ℕ)) (is_plain : Type 0) (max_steps : Option ℕ) (result : Result Answer ParseFault)
+    : Type 0 where
   pub faults : HasParseFaults rules text named result
   pub short : OnOk result (length text ≤ max_text_bytes)
   -- success, consumed length, tree and furthest failure
   pub outcome : IfOk result (λ answer. IfSome (start_name rules named)
-      (λ start. IsParseOutcomeBy among rules text start answer.outcome))
+      (λ start. IsParseOutcomeBy shown among rules text start answer.outcome))
   pub fits : IfOk result (λ answer. FitsBy among rules answer.outcome)
   pub limit : HasStepLimit rules text named is_plain max_steps result
   pub steps : HasParseSteps rules text named is_plain max_steps result

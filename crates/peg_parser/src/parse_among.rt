@@ -1,5 +1,5 @@
 //! Parses whose furthest failure is that of listed terminals.
-ghost use Rattle.std.specs.Prelude.{◌≡◌, Some};
+ghost use Rattle.std.specs.Prelude.{◌≡◌, None, Some};
 ghost use Rattle.std.specs.List.Sorted.{IsStrictlyIncreasing};
 ghost use Rattle.peg_parser.specs.ParseContract.{IsParse};
 ghost use Rattle.peg_parser.specs.Parser.{parser_rules, start_named};
@@ -32,9 +32,10 @@ impl Parser {
         terminals: &[u32],
     ) -> Result<Answer, ParseFault>
         requires { IsStrictlyIncreasing terminals.now }
-        ensures parse { IsParse (Some terminals.now) (parser_rules self.now) text.now (start_named options.now)
+        ensures parse { IsParse None (Some terminals.now) (parser_rules self.now) text.now (start_named options.now)
             (options.now.memo ≡ 0) options.now.steps result }
     {
-        self.parse_selecting(alloc, text, options, Some(terminals))
+        self.engine
+            .parse_selecting(alloc, text, options, Some(terminals))
     }
 }

@@ -1,50 +1,38 @@
 //! Parsers: accepted grammar files, and parsing texts by them.
-ghost use Rattle.std.specs.Prelude.{◌≡◌, ◌<◌, ◌≤◌, ◌↔◌, ⊤, [], ℕ, List, None, Option};
-ghost use Rattle.std.specs.Prelude.{length, slice_get, Some, IfOk, IfErr, IfSome, IsErrOf, OnOk};
-ghost use Rattle.std.specs.FinMap as map;
-ghost use Rattle.std.specs.List.Sorted.{IsStrictlyIncreasing};
-ghost use Rattle.std.specs.Option.{ForSome};
+ghost use Rattle.std.specs.Prelude.{◌≡◌, ◌<◌, ◌≤◌, None, length, slice_get, Some, IfOk, IfErr, IfSome, IsErrOf, OnOk};
 ghost use Rattle.peg_bytes.specs.Extent.{extent};
 ghost use Rattle.peg_core.specs.CoreForm.{core_bodies};
 ghost use Rattle.peg_core.specs.Layout.{bodies_of};
 ghost use Rattle.peg_code.specs.Code.{entries_of, program_code};
 ghost use Rattle.peg_code.specs.Compiled.{max_instructions};
 ghost use Rattle.peg_grammar.specs.GrammarRules.{rules_in};
-ghost use Rattle.peg_grammar.specs.Limits.{max_text_bytes};
 ghost use Rattle.peg_semantics.specs.Terminals.{extents_of_terminals};
 ghost use Rattle.peg_semantics.specs.WellFormed.{IsWellFormedGrammar};
-ghost use Rattle.peg_machine.specs.RunContract.{NeverStores};
-ghost use Rattle.peg_machine.specs.SelectedTests.{listed};
 ghost use Rattle.peg_machine.specs.Traced.{GetsCalls};
-ghost use Rattle.peg_semantics.specs.Record.{RuleCall};
+ghost use Rattle.peg_parser.specs.Engine.{engine_rules, rules_shown, shown_in, shown_parser_rules};
+ghost use Rattle.peg_parser.specs.ShowsNone.{ShowsNone};
 
+use crate::engine::Engine;
 use crate::large_code::refusal_of_large_code;
 use crate::options::ParseOptions;
 use crate::refusal::Refusal;
+use crate::shown_parser::ShownParser;
 use peg_bytes::Span;
 use peg_check::check;
 use peg_code::{MAX_INSTRUCTIONS, Program, code_size, compile};
 use peg_core::desugar;
-use peg_grammar::{Grammar, MAX_TEXT_BYTES};
-use peg_machine::{Answer, NoWatch, RunFault, Watch, run_in_store};
-use peg_memo::{CopiedNodes, NoMemo, NodeStore};
-use peg_memo_policy::{RerunCosts, SelectiveStore};
+use peg_grammar::Grammar;
+use peg_machine::{Answer, Watch};
 use peg_notation::read;
+use peg_tree::RuleSet;
 use std::alloc::{AllocError, Global};
 use thiserror::Error;
 
 /// The parser of an accepted grammar file: its grammar is well-formed, is compiled, and parses every text.
 #[derive(Drop)]
 pub struct Parser {
-    grammar: Grammar,
-    program: Program,
-    costs: RerunCosts,
-    pub ghost well_formed: { ∥ IsWellFormedGrammar (rules_in grammar) ∥₁ },
-    pub ghost bodies: { ∥ bodies_of program.core ≡ core_bodies (rules_in grammar) ∥₁ },
-    pub ghost code: { program.code ≡ program_code (core_bodies (rules_in grammar)) },
-    pub ghost entries: { program.entries ≡ entries_of (core_bodies (rules_in grammar)) },
-    pub ghost spans: { program.core.spans ≡ extents_of_terminals (rules_in grammar) },
-    pub ghost all_shown: { program.shown ≡ None },
+    pub(crate) engine: Engine,
+    pub ghost all_shown: { shown_in engine ≡ None },
 }
 
 /// Why a text isn't parsed.
@@ -75,28 +63,9 @@ impl From<AllocError> for ParseFault {
     }
 }
 
-// A parse runs without a memo first. That run may take `PLAIN_STEPS_BASE` steps, and `PLAIN_STEPS_PER_BYTE` for each
-// byte of the text. Data formats take 5 to 10 steps for each byte, grammar files about 20, and programs in C 40 to 60.
-const PLAIN_STEPS_BASE: u64 = 4_096;
-
-const PLAIN_STEPS_PER_BYTE: u64 = 64;
-
-// The step limit of the run without a memo: at most the limit of the parse.
-fn plain_steps(bytes: usize, max_steps: Option<u64>) -> u64
-    requires { bytes ≤ max_text_bytes }
-    ensures { (limit : ℕ) → max_steps ≡ Some limit → result ≤ limit }
-{
-    let plain = PLAIN_STEPS_BASE + PLAIN_STEPS_PER_BYTE * bytes as u64;
-    match max_steps {
-        Some(limit) => limit.min(plain),
-        None => plain,
-    }
-}
-
 impl Parser {
-    ghost use Rattle.peg_semantics.specs.Rules.{name_of};
     ghost use Rattle.peg_parser.specs.Accepts.{Accepts, code_size};
-    ghost use Rattle.peg_parser.specs.Calls.{AreCallsSoFar, AreFirstCalls, TracesCallsInOrder, TracesCallsOf};
+    ghost use Rattle.peg_parser.specs.Calls.{TracesCallsInOrder, TracesCallsOf};
     ghost use Rattle.peg_parser.specs.Calls.{TracesCallsSoFar};
     ghost use Rattle.peg_parser.specs.Faults.{RefusalMeaning, HasCause, HasDefinitionsOf};
     ghost use Rattle.peg_parser.specs.GrammarRefusals.{IsRefusalOfGrammar};
@@ -173,19 +142,42 @@ impl Parser {
         ensures rules { IfOk result (λ parser. parser_rules parser ≡ rules_in grammar) }
         ensures memory { IfErr result (λ why. why ≡ Refusal.Memory) }
     {
-        let costs = RerunCosts::new(alloc, &program)?;
-        Ok(Parser {
-            grammar,
-            program,
-            costs,
-        })
+        let engine = Engine::new(alloc, grammar, program)?;
+        Ok(Parser { engine })
+    }
+
+    /// Returns the parser that shows a set of rules, or all for `None`. Its trees have the root and the nodes of these
+    /// rules, and its parses make no other nodes. Constant time.
+    pub fn showing(self, shown: Option<RuleSet>) -> ShownParser
+        ensures rules { shown_parser_rules result ≡ parser_rules self }
+        ensures shown { rules_shown result ≡ shown }
+    {
+        ShownParser::new(self.engine.showing(shown))
+    }
+
+    /// Returns the parser that shows no rules: its trees have the root alone. Linear in the number of rules. The only
+    /// error is a failed allocation.
+    pub fn without_nodes(self, alloc: Global) -> Result<ShownParser, AllocError>
+        ensures rules { IfOk result (λ shown. shown_parser_rules shown ≡ parser_rules self) }
+        ensures bare { IfOk result (λ shown. ShowsNone (rules_shown shown)) }
+    {
+        let none = RuleSet::none(alloc, self.grammar().rules())?;
+        Ok(self.showing(Some(none)))
+    }
+
+    // The parser of an engine that shows all rules.
+    pub(crate) fn from_engine(engine: Engine) -> Parser
+        requires { shown_in engine ≡ None }
+        ensures { parser_rules result ≡ engine_rules engine }
+    {
+        Parser { engine }
     }
 
     /// Returns the grammar of the file. Constant time.
     pub fn grammar(&self) -> &Grammar
         ensures { rules_in result.now ≡ parser_rules self.now }
     {
-        &self.grammar
+        self.engine.grammar()
     }
 
     /// Returns the compiled code of the grammar. Each rule's expression is desugared first (Ford 2004, section 3.2).
@@ -195,7 +187,7 @@ impl Parser {
         ensures entries { result.now.entries ≡ entries_of (core_bodies (parser_rules self.now)) }
         ensures core { ∥ bodies_of result.now.core ≡ core_bodies (parser_rules self.now) ∥₁ }
     {
-        &self.program
+        self.engine.program()
     }
 
     /// Returns the span of a terminal in the grammar file: the byte offsets of its start and its end. Constant time.
@@ -203,7 +195,7 @@ impl Parser {
         requires { terminal < length (extents_of_terminals (parser_rules self.now)) }
         ensures { slice_get (extents_of_terminals (parser_rules self.now)) terminal ≡ Some (extent result) }
     {
-        self.program.terminal_span(terminal)
+        self.engine.terminal_span(terminal)
     }
 
     /// Parses a prefix of a text by the rule that `options` names. Success, consumed length, tree and furthest failure
@@ -233,45 +225,10 @@ impl Parser {
         text: &[u8],
         options: &ParseOptions<'_>,
     ) -> Result<Answer, ParseFault>
-        ensures parse { IsParse None (parser_rules self.now) text.now (start_named options.now)
+        ensures parse { IsParse None None (parser_rules self.now) text.now (start_named options.now)
             (options.now.memo ≡ 0) options.now.steps result }
     {
-        self.parse_selecting(alloc, text, options, None)
-    }
-
-    // Parses a text. The furthest failure is that of the terminals in `among`, or of all.
-    pub(crate) fn parse_selecting(
-        &self,
-        alloc: Global,
-        text: &[u8],
-        options: &ParseOptions<'_>,
-        among: Option<&[u32]>,
-    ) -> Result<Answer, ParseFault>
-        requires { ForSome among (λ terminals. IsStrictlyIncreasing terminals.now) }
-        ensures parse { IsParse (listed among.entry) (parser_rules self.now) text.now (start_named options.now)
-            (options.now.memo ≡ 0) options.now.steps result }
-    {
-        let Some(start) = self.start(options) else {
-            return Err(ParseFault::NoSuchStart);
-        };
-        if options.memo == 0 || text.len() > MAX_TEXT_BYTES {
-            return self.answer_plain(alloc, text, start, among, &mut NoWatch, options.steps);
-        }
-        let plain_steps = plain_steps(text.len(), options.steps);
-        match self.answer_plain(alloc, text, start, among, &mut NoWatch, Some(plain_steps)) {
-            Err(ParseFault::StepLimit) => {
-                self.answer_with_memo(
-                    alloc,
-                    text,
-                    start,
-                    among,
-                    options.memo,
-                    &mut NoWatch,
-                    options.steps,
-                )
-            }
-            result => result,
-        }
+        self.engine.parse_selecting(alloc, text, options, None)
     }
 
     /// Parses as `parse` does, but in one run, and shows the tracer each call whose body runs. Without a memo these are
@@ -298,7 +255,7 @@ impl Parser {
         options: &ParseOptions<'_>,
         watch: &mut W,
     ) -> Result<Answer, ParseFault>
-        ensures parse { IsParse None (parser_rules self.now) text.now (start_named options.now)
+        ensures parse { IsParse None None (parser_rules self.now) text.now (start_named options.now)
             (options.now.memo ≡ 0) options.now.steps result }
         ensures traced { IfOk result (λ answer. IfSome (start_name (parser_rules self.now) (start_named options.now))
             (λ start. TracesCallsOf (parser_rules self.now) text.now start answer
@@ -314,137 +271,6 @@ impl Parser {
         ensures untraced { IsErrOf result ParseFault.NoSuchStart → watch.new ≡ watch.old }
         ensures untraced_long { IsErrOf result ParseFault.TextTooLong → watch.new ≡ watch.old }
     {
-        let (memo, max_steps) = (options.memo, options.steps);
-        match self.start(options) {
-            None => Err(ParseFault::NoSuchStart),
-            Some(_) if text.len() > MAX_TEXT_BYTES => Err(ParseFault::TextTooLong),
-            Some(start) if memo == 0 => {
-                self.answer_plain(alloc, text, start, None, watch, max_steps)
-            }
-            Some(start) => {
-                self.answer_with_memo(alloc, text, start, None, memo, watch, max_steps)
-            }
-        }
-    }
-
-    // Runs the machine on a text from a rule, with a memo of this capacity and a tracer.
-    fn answer_with_memo<W: Watch>(
-        &self,
-        alloc: Global,
-        text: &[u8],
-        start: u32,
-        among: Option<&[u32]>,
-        capacity: u32,
-        watch: &mut W,
-        max_steps: Option<u64>,
-    ) -> Result<Answer, ParseFault>
-        requires start { start < length (parser_rules self.now) }
-        requires ascending { ForSome among (λ terminals. IsStrictlyIncreasing terminals.now) }
-        requires short { length text.now ≤ max_text_bytes }
-        requires capacity { 1 ≤ capacity }
-        ensures parse { (named : Option (List ℕ))
-            → start_name (parser_rules self.now) named ≡ Some (name_of (parser_rules self.now) start)
-            → IsParse (listed among.entry) (parser_rules self.now) text.now named ⊥ max_steps result }
-        ensures traced { IfOk result (λ answer. TracesCallsOf (parser_rules self.now) text.now
-            (name_of (parser_rules self.now) start) answer (GetsCalls W.records W.traced watch.old watch.new)) }
-        ensures stopped { IsErrOf result ParseFault.StepLimit → (calls : List RuleCall)
-            × GetsCalls W.records W.traced watch.old watch.new calls
-            × AreCallsSoFar (parser_rules self.now) text.now (name_of (parser_rules self.now) start) max_steps calls }
-    {
-        let mut store = SelectiveStore::new(alloc, capacity, &self.costs, text)?;
-        self.answer(alloc, text, start, among, &mut store, watch, max_steps)
-    }
-
-    // Runs the machine on a text from a rule, without a memo and with a tracer.
-    fn answer_plain<W: Watch>(
-        &self,
-        alloc: Global,
-        text: &[u8],
-        start: u32,
-        among: Option<&[u32]>,
-        watch: &mut W,
-        max_steps: Option<u64>,
-    ) -> Result<Answer, ParseFault>
-        requires start { start < length (parser_rules self.now) }
-        requires ascending { ForSome among (λ terminals. IsStrictlyIncreasing terminals.now) }
-        ensures parse { (named : Option (List ℕ))
-            → start_name (parser_rules self.now) named ≡ Some (name_of (parser_rules self.now) start)
-            → IsParse (listed among.entry) (parser_rules self.now) text.now named ⊤ max_steps result }
-        ensures traced { IfOk result (λ answer. TracesCallsOf (parser_rules self.now) text.now
-            (name_of (parser_rules self.now) start) answer (GetsCalls W.records W.traced watch.old watch.new)) }
-        ensures in_order { OnOk result (TracesCallsInOrder
-            (parser_rules self.now) text.now (name_of (parser_rules self.now) start)
-            (GetsCalls W.records W.traced watch.old watch.new)) }
-        ensures stopped { IsErrOf result ParseFault.StepLimit
-            → (calls : List RuleCall) × GetsCalls W.records W.traced watch.old watch.new calls
-            × AreCallsSoFar (parser_rules self.now) text.now (name_of (parser_rules self.now) start) max_steps calls
-            × AreFirstCalls (parser_rules self.now) text.now (name_of (parser_rules self.now) start) calls }
-    {
-        let mut memo = NoMemo;
-        let mut store = CopiedNodes::new(alloc, &mut memo);
-        self.answer(alloc, text, start, among, &mut store, watch, max_steps)
-    }
-
-    // Runs the machine on a text from a rule, with a store without nodes and entries, and a tracer.
-    fn answer<S: NodeStore, W: Watch>(
-        &self,
-        alloc: Global,
-        text: &[u8],
-        start: u32,
-        among: Option<&[u32]>,
-        store: &mut S,
-        watch: &mut W,
-        max_steps: Option<u64>,
-    ) -> Result<Answer, ParseFault>
-        requires start { start < length (parser_rules self.now) }
-        requires ascending { ForSome among (λ terminals. IsStrictlyIncreasing terminals.now) }
-        requires no_nodes { (S.state store.old).nodes ≡ [] }
-        requires empty { map.len (S.state store.old).memo.entries ≡ 0 }
-        ensures parse { (named : Option (List ℕ))
-            → start_name (parser_rules self.now) named ≡ Some (name_of (parser_rules self.now) start)
-            → IsParse (listed among.entry) (parser_rules self.now) text.now named
-            (NeverStores (λ (any : S). (S.state any).memo.entries)) max_steps result }
-        ensures traced { IfOk result (λ answer. TracesCallsOf (parser_rules self.now) text.now
-            (name_of (parser_rules self.now) start) answer (GetsCalls W.records W.traced watch.old watch.new)) }
-        ensures stopped { IsErrOf result ParseFault.StepLimit → (calls : List RuleCall)
-            × GetsCalls W.records W.traced watch.old watch.new calls
-            × AreCallsSoFar (parser_rules self.now) text.now (name_of (parser_rules self.now) start) max_steps calls }
-        ensures in_order { NeverStores (λ (any : S). (S.state any).memo.entries) → OnOk result (TracesCallsInOrder
-            (parser_rules self.now) text.now (name_of (parser_rules self.now) start)
-            (GetsCalls W.records W.traced watch.old watch.new)) }
-        ensures stopped_in_order { NeverStores (λ (any : S). (S.state any).memo.entries) → IsErrOf result ParseFault.StepLimit
-            → (calls : List RuleCall) × GetsCalls W.records W.traced watch.old watch.new calls
-            × AreCallsSoFar (parser_rules self.now) text.now (name_of (parser_rules self.now) start) max_steps calls
-            × AreFirstCalls (parser_rules self.now) text.now (name_of (parser_rules self.now) start) calls }
-    {
-        match run_in_store(
-            alloc,
-            &self.program,
-            text,
-            start,
-            among,
-            store,
-            watch,
-            max_steps,
-        ) {
-            Ok(answer) => Ok(answer),
-            Err(RunFault::TextTooLong) => Err(ParseFault::TextTooLong),
-            Err(RunFault::StepLimit) => Err(ParseFault::StepLimit),
-            Err(RunFault::Memory) => Err(ParseFault::Memory),
-        }
-    }
-
-    // The number of the start rule.
-    fn start(&self, options: &ParseOptions<'_>) -> Option<u32>
-        ensures none { (result ≡ None) ↔ (start_name (parser_rules self.now) (start_named options.now) ≡ None) }
-        ensures some { IfSome result (λ start. start < length (parser_rules self.now)) }
-        ensures named { IfSome result (λ start.
-            start_name (parser_rules self.now) (start_named options.now) ≡ Some (name_of
-            (parser_rules self.now) start)) }
-    {
-        match options.start {
-            None => Some(0),
-            Some(name) => self.grammar.rule_number(name),
-        }
+        self.engine.trace(alloc, text, options, watch)
     }
 }

@@ -1,10 +1,11 @@
 use Rattle.std.proofs.Common.{rules as by_rules, ◌≡◌, ◌∙◌, ◌<◌, All, IfSome, List, None, Some, length, ℕ, subst, sym, true}
 use Rattle.std.proofs.lemmas.Result.{IfOk-weaker}
 use Rattle.peg_diagnostics.specs.Items.{extents_of_items}
-use Rattle.peg_grammar.specs.Outcomes.{IsParseOutcomeAmong}
 use Rattle.peg_parser.specs.Fits.{FitsAmong}
 use Rattle.peg_parser.specs.ParseContract.{HasParseSteps, HasStepLimit}
-use Rattle.peg_parser.specs.Parser.{parser_rules, start_named}
+use Rattle.peg_parser.specs.Engine.{rules_shown, shown_parser_rules}
+use Rattle.peg_parser.specs.Parser.{start_named}
+use Rattle.peg_parser.specs.SelectedOutcomes.{IsParseOutcomeBy}
 use Rattle.peg_semantics.specs.Rules.{Rule}
 use Rattle.peg_semantics.specs.Starts.{start_name}
 use Rattle.peg_blame.specs.BlameOutcome.{IsBlameOutcome}
@@ -24,9 +25,9 @@ found c rules is =
 -- it is a start of the parser
 shown : (c : After-parse_among) (rules : List Rule) → IsBlameParserOf rules c.args.self.now → (start : List ℕ)
     → start_name rules (start_named c.args.options.now) ≡ Some start
-    → start_name (parser_rules c.args.self.now.parser) (start_named c.args.options.now) ≡ Some start
+    → start_name (shown_parser_rules c.args.self.now.parser) (start_named c.args.options.now) ≡ Some start
 shown c rules is start at =
-    shown-start rules (parser_rules c.args.self.now.parser) (start_named c.args.options.now) is.diagnostic
+    shown-start rules (shown_parser_rules c.args.self.now.parser) (start_named c.args.options.now) is.diagnostic
     (nonempty rules is.grammar) start at
 
 pub returns-clause-faults : goal.returns-clause-faults
@@ -44,19 +45,20 @@ returns-clause-faults c rules is =
 
 pub returns-clause-outcome : goal.returns-clause-outcome
 returns-clause-outcome c rules is =
-    let all = parser_rules c.args.self.now.parser in
+    let all = shown_parser_rules c.args.self.now.parser in
     let named = start_named c.args.options.now in
     let text = c.args.text.now in
     let terminals = c.deref.result.now in
+    let set = rules_shown c.args.self.now.parser in
     IfOk-weaker c.parse_among.result
-    (λ answer. IfSome (start_name all named) (λ start. IsParseOutcomeAmong all text start terminals answer.outcome))
+    (λ answer. IfSome (start_name all named) (λ start. IsParseOutcomeBy set (Some terminals) all text start answer.outcome))
     (λ answer. IfSome (start_name rules named) (λ start. IsBlameOutcome rules text start answer.outcome))
-    (λ answer. start-outcome rules all named is.diagnostic (nonempty rules is.grammar) text terminals answer.outcome
-    (c.deref.ensures.value ∙ is.terminals) is.distinct is.well_formed) c.parse_among.ensures.parse.outcome
+    (λ answer. start-outcome rules all named is.diagnostic (nonempty rules is.grammar) set text terminals answer.outcome
+    is.bare (c.deref.ensures.value ∙ is.terminals) is.distinct is.well_formed) c.parse_among.ensures.parse.outcome
 
 pub returns-clause-fits : goal.returns-clause-fits
 returns-clause-fits c rules is =
-    let all = parser_rules c.args.self.now.parser in
+    let all = shown_parser_rules c.args.self.now.parser in
     let terminals = c.deref.result.now in
     IfOk-weaker c.parse_among.result (λ answer. FitsAmong all terminals answer.outcome)
     (λ answer. All (λ item. item < length (extents_of_items rules)) answer.outcome.expected.items)
@@ -64,7 +66,7 @@ returns-clause-fits c rules is =
     fits.indices) c.parse_among.ensures.parse.fits
 
 pub returns-clause-in_text : goal.returns-clause-in_text
-returns-clause-in_text c = parse-in_text _ _ _ _ _ _ c.parse_among.result c.parse_among.ensures.parse
+returns-clause-in_text c = parse-in_text _ _ _ _ _ _ _ c.parse_among.result c.parse_among.ensures.parse
 
 -- ---- the steps are those of the diagnostic grammar
 

@@ -1,7 +1,8 @@
 use Rattle.std.proofs.Common.{rules as by_rules, ◌≡◌, ◌∙◌, ℕ, List, None, Some, ap, length, map, subst, sym, true}
 use Rattle.peg_diagnostics.specs.LoudCalls.{calls_of_first}
 use Rattle.peg_machine.specs.Watched.{call_of}
-use Rattle.peg_parser.specs.Parser.{parser_rules, start_named}
+use Rattle.peg_parser.specs.Engine.{shown_parser_rules}
+use Rattle.peg_parser.specs.Parser.{start_named}
 use Rattle.peg_parser.specs.StepLimits.{TakesMoreSteps}
 use Rattle.peg_semantics.specs.Record.{RuleCall}
 use Rattle.peg_semantics.specs.Rules.{Rule}
@@ -23,9 +24,9 @@ found c rules is =
 -- it is a start of the parser
 shown : (c : After-trace) (rules : List Rule) → IsBlameParserOf rules c.args.self.now → (start : List ℕ)
     → start_name rules (start_named c.args.options.now) ≡ Some start
-    → start_name (parser_rules c.args.self.now.parser) (start_named c.args.options.now) ≡ Some start
+    → start_name (shown_parser_rules c.args.self.now.parser) (start_named c.args.options.now) ≡ Some start
 shown c rules is start at =
-    shown-start rules (parser_rules c.args.self.now.parser) (start_named c.args.options.now) is.diagnostic
+    shown-start rules (shown_parser_rules c.args.self.now.parser) (start_named c.args.options.now) is.diagnostic
     (nonempty rules is.grammar) start at
 
 pub returns-in_err-_answer-clause-faults : goal.returns-in_err-_answer-clause-faults
@@ -57,7 +58,7 @@ returns-in_err-_answer-clause-limit c rules is = record {
 
 pub returns-clause-called : goal.returns-clause-called
 returns-clause-called c rules is =
-    let all = parser_rules c.args.self.now.parser in
+    let all = shown_parser_rules c.args.self.now.parser in
     let named = start_named c.args.options.now in
     let before = c.new-calls.result in
     let after = c.trace.new.watch in

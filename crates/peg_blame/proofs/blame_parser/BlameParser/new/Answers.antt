@@ -9,6 +9,7 @@ use Rattle.peg_semantics.specs.Grammar.{max_parts}
 use Rattle.peg_semantics.specs.Rules.{Rule, names, weight_of}
 use Rattle.peg_semantics.specs.WellFormed.{IsWellFormedGrammar}
 use Rattle.peg_blame.specs.Faults.{IsParserRefusal, of_grammar}
+use Rattle.peg_blame.specs.declared.fault.BlameFault.TheVariants.{Memory}
 use Rattle.peg_blame.proofs.BlameFaults.{formed-too, names-distinct, refused-error, refused-grammar, refused-parser}
 use Rattle.peg_blame.proofs.blame_parser.BlameParser.new.Goals as goal
 
@@ -30,6 +31,16 @@ returns-in_err-parser-clause-refused c =
     (refused-parser rules c.args.grammar.now.grammar distinct why
     (subst (λ (shown : List Rule). IsParserRefusal shown why) same c.in_err-parser.ensures.refused))
 
+pub returns-in_err-item_rules-clause-refused : goal.returns-in_err-item_rules-clause-refused
+returns-in_err-item_rules-clause-refused c =
+    refused-error (rules_in c.args.grammar.now) c.from_residual-in_err-item_rules.result Memory
+    c.from_residual-in_err-item_rules.ensures.1 tt
+
+pub returns-in_err-item_kinds-clause-refused : goal.returns-in_err-item_kinds-clause-refused
+returns-in_err-item_kinds-clause-refused c =
+    refused-error (rules_in c.args.grammar.now) c.from_residual-in_err-item_kinds.result Memory
+    c.from_residual-in_err-item_kinds.ensures.1 tt
+
 pub returns-clause-made : goal.returns-clause-made
 returns-clause-made c =
     let rules = rules_in c.args.grammar.now in
@@ -41,6 +52,7 @@ returns-clause-made c =
       well_formed = formed-too rules c.args.grammar.now.grammar distinct
           (subst IsWellFormedGrammar same c.in_ok-parser.ensures.well_formed);
       diagnostic = c.in_ok-parser.ensures.rules ∙ same;
+      bare = c.in_ok-parser.ensures.bare;
       distinct = distinct;
       light = subst (λ (shown : List Rule). weight_of shown ≤ max_parts) same c.in_ok-diagnostic.diagnostic.light;
       small = subst (λ (shown : List Rule). code_size shown ≤ max_instructions) same c.in_ok-parser.ensures.small;

@@ -1,13 +1,14 @@
-use Rattle.std.proofs.Common.{◌≡◌, ◌≤◌, ◌∙◌, ℕ, Err, List, Option, ap, arith, length, subst, unwrap_or}
+use Rattle.std.proofs.Common.{◌≡◌, ◌≤◌, ◌∙◌, ℕ, Err, Option, ap, arith, length, subst, unwrap_or}
 use Rattle.peg_semantics.specs.Starts.{start_name}
-use Rattle.peg_parser.specs.Parser.{parser_rules, start_named}
+use Rattle.peg_parser.specs.Engine.{shown_parser_rules}
+use Rattle.peg_parser.specs.Parser.{start_named}
 use Rattle.peg_profile.specs.Profiles.{AreProfilesOf}
 use Rattle.peg_profile.proofs.ProfileLemmas.{ended-profiles}
 use Rattle.peg_profile.proofs.profile.Profile.of_text.Goals as goal
 
 pub returns-in-Ok-clause-rules : goal.returns-in-Ok-clause-rules
 returns-in-Ok-clause-rules c =
-    let rules = parser_rules c.args.parser.now in
+    let rules = shown_parser_rules c.args.parser.now in
     let profiles = c.in_ok-rules-in-Ok.rules.items in
     ended-profiles rules c.args.text.now c.args.options.now.memo c.new-calls.result c.trace.new.watch profiles
     c.new-calls.ensures

@@ -1,4 +1,4 @@
-use Rattle.std.proofs.Common.{◌<◌, ◌∙◌, Bool, List, Option, None, Result, Ok, Err, ap, arith, subst}
+use Rattle.std.proofs.Common.{◌<◌, ◌∙◌, Result, Ok, Err, ap, arith, subst}
 use Rattle.std.proofs.lemmas.List.Elements.{All-from_get_or}
 use Rattle.peg_core.specs.Layout.{bodies_of}
 use Rattle.peg_machine.specs.declared.answer.Answer.{Answer}
@@ -7,42 +7,11 @@ use Rattle.peg_machine.specs.declared.fault.RunFault.TheVariants as run
 use Rattle.peg_machine.specs.SelectedTests.{listed}
 use Rattle.peg_machine.specs.RunContract.{IsRun, NeverStores}
 use Rattle.peg_machine.specs.Traced.{GetsCalls, Traces}
+use Rattle.peg_parser.specs.Engine.{shown_in}
 use Rattle.peg_parser.proofs.CoreStarts.{length-bodies}
 use Rattle.peg_parser.proofs.ParseLemmas.{parse_of_run}
-use Rattle.peg_parser.proofs.TraceLemmas.{parser-calls, parser-calls-in-order, parser-calls-so-far, parser-first-calls, parser-steps}
-use Rattle.peg_parser.proofs.parser.Parser.answer.Given.{Over}
-use Rattle.peg_parser.proofs.parser.Parser.answer.Goals as goal
-use Rattle.peg_parser.proofs.parser.Parser.answer.Goals.{After-run_in_store, In-Ok}
-
--- the run shows all rules
-run_shown : (g : Over) (c : After-run_in_store g)
-    → IsRun None (listed c.args.among) (bodies_of c.args.self.now.program.core)
-    c.args.text.now c.args.start c.args.max_steps (NeverStores (λ any. (g.S.NodeStore.state any).memo.entries))
-    (g.S.NodeStore.state c.args.store.now).memo.capacity
-    (g.S.NodeStore.state c.run_in_store.new.store).memo.allocation_failed
-    (GetsCalls g.W.Watch.records g.W.Watch.traced c.args.watch.now c.run_in_store.new.watch) c.run_in_store.result
-run_shown g c =
-    subst (λ (shown : Option (List Bool)). IsRun shown (listed c.args.among) (bodies_of c.args.self.now.program.core)
-    c.args.text.now c.args.start c.args.max_steps (NeverStores (λ any. (g.S.NodeStore.state any).memo.entries))
-    (g.S.NodeStore.state c.args.store.now).memo.capacity
-    (g.S.NodeStore.state c.run_in_store.new.store).memo.allocation_failed
-    (GetsCalls g.W.Watch.records g.W.Watch.traced c.args.watch.now c.run_in_store.new.watch) c.run_in_store.result)
-    c.args.self.now.all_shown c.run_in_store.ensures.run
-
--- so has one with an answer
-answered : (g : Over) (c : In-Ok g)
-    → IsRun None (listed c.args.among) (bodies_of c.args.self.now.program.core)
-    c.args.text.now c.args.start c.args.max_steps (NeverStores (λ any. (g.S.NodeStore.state any).memo.entries))
-    (g.S.NodeStore.state c.args.store.now).memo.capacity
-    (g.S.NodeStore.state c.run_in_store.new.store).memo.allocation_failed
-    (GetsCalls g.W.Watch.records g.W.Watch.traced c.args.watch.now c.run_in_store.new.watch) (Ok c.in-Ok.answer)
-answered g c =
-    subst (λ (shown : Option (List Bool)). IsRun shown (listed c.args.among) (bodies_of c.args.self.now.program.core)
-    c.args.text.now c.args.start c.args.max_steps (NeverStores (λ any. (g.S.NodeStore.state any).memo.entries))
-    (g.S.NodeStore.state c.args.store.now).memo.capacity
-    (g.S.NodeStore.state c.run_in_store.new.store).memo.allocation_failed
-    (GetsCalls g.W.Watch.records g.W.Watch.traced c.args.watch.now c.run_in_store.new.watch) (Ok c.in-Ok.answer))
-    c.args.self.now.all_shown c.in-Ok.ensures.run
+use Rattle.peg_parser.proofs.TraceLemmas.{engine-calls, engine-calls-in-order, engine-calls-so-far, engine-first-calls, engine-steps}
+use Rattle.peg_parser.proofs.engine.Engine.answer.Goals as goal
 
 pub run_in_store-requires-clause-rule : goal.run_in_store-requires-clause-rule
 run_in_store-requires-clause-rule g c = omega (arith, c.requires.start, length-bodies c.args.self.now)
@@ -55,9 +24,10 @@ returns-in-Ok-clause-parse g c named found =
     (NeverStores (λ any. (g.S.NodeStore.state any).memo.entries)) (g.S.NodeStore.state c.args.store.now).memo.capacity
     (g.S.NodeStore.state c.run_in_store.new.store).memo.allocation_failed
     (GetsCalls g.W.Watch.records g.W.Watch.traced c.args.watch.now c.run_in_store.new.watch) c.requires.start found
+    c.a_selected_tree_has_no_other_rules.ensures
     (Ok c.in-Ok.answer)
     (All-from_get_or (λ byte. byte < 256) c.args.text.now 0 (λ i within. (c.type_inv.text i).fits))
-    (answered g (goal.at.returns-in-Ok-clause-parse g c).In-Ok)
+    c.in-Ok.ensures.run
 
 pub returns-in-Err-TextTooLong-clause-parse : goal.returns-in-Err-TextTooLong-clause-parse
 returns-in-Err-TextTooLong-clause-parse g c named found =
@@ -65,14 +35,15 @@ returns-in-Err-TextTooLong-clause-parse g c named found =
     (NeverStores (λ any. (g.S.NodeStore.state any).memo.entries)) (g.S.NodeStore.state c.args.store.now).memo.capacity
     (g.S.NodeStore.state c.run_in_store.new.store).memo.allocation_failed
     (GetsCalls g.W.Watch.records g.W.Watch.traced c.args.watch.now c.run_in_store.new.watch) c.requires.start found
+    c.a_selected_tree_has_no_other_rules.ensures
     (Err run.TextTooLong)
     (All-from_get_or (λ byte. byte < 256) c.args.text.now 0 (λ i within. (c.type_inv.text i).fits))
-    (subst (λ (result : Result Answer RunFault). IsRun None (listed c.args.among) (bodies_of c.args.self.now.program.core)
+    (subst (λ (result : Result Answer RunFault). IsRun (shown_in c.args.self.now) (listed c.args.among) (bodies_of c.args.self.now.program.core)
     c.args.text.now c.args.start c.args.max_steps (NeverStores (λ any. (g.S.NodeStore.state any).memo.entries)) (g.S.NodeStore.state c.args.store.now).memo.capacity
     (g.S.NodeStore.state c.run_in_store.new.store).memo.allocation_failed
     (GetsCalls g.W.Watch.records g.W.Watch.traced c.args.watch.now c.run_in_store.new.watch) result)
     (c.in-Err-TextTooLong.is ∙ ap Err c.in-Err-TextTooLong.field-0-is)
-    (run_shown g (goal.at.returns-in-Err-TextTooLong-clause-parse g c).After-run_in_store))
+    c.run_in_store.ensures.run)
 
 pub returns-in-Err-StepLimit-clause-parse : goal.returns-in-Err-StepLimit-clause-parse
 returns-in-Err-StepLimit-clause-parse g c named found =
@@ -80,14 +51,15 @@ returns-in-Err-StepLimit-clause-parse g c named found =
     (NeverStores (λ any. (g.S.NodeStore.state any).memo.entries)) (g.S.NodeStore.state c.args.store.now).memo.capacity
     (g.S.NodeStore.state c.run_in_store.new.store).memo.allocation_failed
     (GetsCalls g.W.Watch.records g.W.Watch.traced c.args.watch.now c.run_in_store.new.watch) c.requires.start found
+    c.a_selected_tree_has_no_other_rules.ensures
     (Err run.StepLimit)
     (All-from_get_or (λ byte. byte < 256) c.args.text.now 0 (λ i within. (c.type_inv.text i).fits))
-    (subst (λ (result : Result Answer RunFault). IsRun None (listed c.args.among) (bodies_of c.args.self.now.program.core)
+    (subst (λ (result : Result Answer RunFault). IsRun (shown_in c.args.self.now) (listed c.args.among) (bodies_of c.args.self.now.program.core)
     c.args.text.now c.args.start c.args.max_steps (NeverStores (λ any. (g.S.NodeStore.state any).memo.entries)) (g.S.NodeStore.state c.args.store.now).memo.capacity
     (g.S.NodeStore.state c.run_in_store.new.store).memo.allocation_failed
     (GetsCalls g.W.Watch.records g.W.Watch.traced c.args.watch.now c.run_in_store.new.watch) result)
     (c.in-Err-StepLimit.is ∙ ap Err c.in-Err-StepLimit.field-0-is)
-    (run_shown g (goal.at.returns-in-Err-StepLimit-clause-parse g c).After-run_in_store))
+    c.run_in_store.ensures.run)
 
 pub returns-in-Err-Memory-clause-parse : goal.returns-in-Err-Memory-clause-parse
 returns-in-Err-Memory-clause-parse g c named found =
@@ -95,14 +67,15 @@ returns-in-Err-Memory-clause-parse g c named found =
     (NeverStores (λ any. (g.S.NodeStore.state any).memo.entries)) (g.S.NodeStore.state c.args.store.now).memo.capacity
     (g.S.NodeStore.state c.run_in_store.new.store).memo.allocation_failed
     (GetsCalls g.W.Watch.records g.W.Watch.traced c.args.watch.now c.run_in_store.new.watch) c.requires.start found
+    c.a_selected_tree_has_no_other_rules.ensures
     (Err run.Memory)
     (All-from_get_or (λ byte. byte < 256) c.args.text.now 0 (λ i within. (c.type_inv.text i).fits))
-    (subst (λ (result : Result Answer RunFault). IsRun None (listed c.args.among) (bodies_of c.args.self.now.program.core)
+    (subst (λ (result : Result Answer RunFault). IsRun (shown_in c.args.self.now) (listed c.args.among) (bodies_of c.args.self.now.program.core)
     c.args.text.now c.args.start c.args.max_steps (NeverStores (λ any. (g.S.NodeStore.state any).memo.entries)) (g.S.NodeStore.state c.args.store.now).memo.capacity
     (g.S.NodeStore.state c.run_in_store.new.store).memo.allocation_failed
     (GetsCalls g.W.Watch.records g.W.Watch.traced c.args.watch.now c.run_in_store.new.watch) result)
     (c.in-Err-Memory.is ∙ ap Err c.in-Err-Memory.field-0-is)
-    (run_shown g (goal.at.returns-in-Err-Memory-clause-parse g c).After-run_in_store))
+    c.run_in_store.ensures.run)
 
 -- ---- the calls
 
@@ -112,12 +85,12 @@ returns-in-Ok-clause-traced g c =
     let traced = c.in-Ok.ensures.run.traced in (
       record {
         calls = traced.0;
-        of_record = parser-calls (listed c.args.among) c.args.self.now c.args.text.now c.args.start
+        of_record = engine-calls (listed c.args.among) c.args.self.now c.args.text.now c.args.start
             c.in-Ok.answer.outcome traced.0
             (All-from_get_or (λ byte. byte < 256) c.args.text.now 0 (λ i within. (c.type_inv.text i).fits))
             c.requires.start
-            (answered g (goal.at.returns-in-Ok-clause-traced g c).In-Ok).outcome traced.2.visited;
-        steps = parser-steps c.args.self.now c.args.text.now c.args.start
+            c.in-Ok.ensures.run.outcome traced.2.visited;
+        steps = engine-steps c.args.self.now c.args.text.now c.args.start
             (g.S.NodeStore.state c.args.store.now).memo.capacity
             (g.S.NodeStore.state c.run_in_store.new.store).memo.allocation_failed c.in-Ok.answer traced.0 traced.2;
       },
@@ -127,7 +100,7 @@ returns-in-Ok-clause-traced g c =
 -- without a memo they are the calls of Ford's record in order
 pub returns-in-Ok-clause-in_order : goal.returns-in-Ok-clause-in_order
 returns-in-Ok-clause-in_order g c never =
-    parser-calls-in-order c.args.self.now c.args.text.now c.args.start
+    engine-calls-in-order c.args.self.now c.args.text.now c.args.start
     (GetsCalls g.W.Watch.records g.W.Watch.traced c.args.watch.now c.run_in_store.new.watch)
     (All-from_get_or (λ byte. byte < 256) c.args.text.now 0 (λ i within. (c.type_inv.text i).fits)) c.requires.start
     (c.in-Ok.ensures.run.in_order never)
@@ -139,7 +112,7 @@ returns-in-Err-StepLimit-clause-stopped g c is =
     let traced = c.run_in_store.ensures.run.traced in (
       traced.0,
       traced.1,
-      parser-calls-so-far c.args.self.now c.args.text.now c.args.start c.args.max_steps traced.0
+      engine-calls-so-far c.args.self.now c.args.text.now c.args.start c.args.max_steps traced.0
           (All-from_get_or (λ byte. byte < 256) c.args.text.now 0 (λ i within. (c.type_inv.text i).fits))
           c.requires.start
           (subst (λ (result : Result Answer RunFault). Traces (bodies_of c.args.self.now.program.core) c.args.text.now
@@ -153,8 +126,8 @@ returns-in-Err-StepLimit-clause-stopped_in_order g c never is =
     let traced = c.run_in_store.ensures.run.stopped never (c.in-Err-StepLimit.is ∙ ap Err c.in-Err-StepLimit.field-0-is) in (
       traced.0,
       traced.1,
-      parser-calls-so-far c.args.self.now c.args.text.now c.args.start c.args.max_steps traced.0 bytes c.requires.start
+      engine-calls-so-far c.args.self.now c.args.text.now c.args.start c.args.max_steps traced.0 bytes c.requires.start
           traced.2.so_far,
-      parser-first-calls c.args.self.now c.args.text.now c.args.start c.args.max_steps traced.0 bytes c.requires.start
+      engine-first-calls c.args.self.now c.args.text.now c.args.start c.args.max_steps traced.0 bytes c.requires.start
           traced.2,
     )

@@ -1,4 +1,4 @@
-use Rattle.peg_parser.proofs.parser.Parser.from_program.Goals as goal
+use Rattle.peg_parser.proofs.engine.Engine.new.Goals as goal
 
 pub invariant_of-result : goal.invariant_of-result
 invariant_of-result c = record {
@@ -7,5 +7,4 @@ invariant_of-result c = record {
   code = c.requires.program.code;
   entries = c.requires.program.entries;
   spans = c.requires.program.spans;
-  all_shown = c.requires.program.all_shown;
 }
