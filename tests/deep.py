@@ -118,10 +118,10 @@ wanted(
         "matched": 0,
         "texts": 1,
         "unused_alternatives": [
-            {"column": 6, "end": 10, "line": 1, "start": 5},
-            {"column": 14, "end": 16, "line": 1, "start": 13},
+            {"column": 6, "end": 10, "line": 1, "start": 5, "tried": True},
+            {"column": 14, "end": 16, "line": 1, "start": 13, "tried": True},
         ],
-        "unused_rules": [{"column": 1, "end": 1, "line": 1, "rule": "S", "start": 0}],
+        "unused_rules": [{"column": 1, "end": 1, "line": 1, "rule": "S", "start": 0, "tried": True}],
     },
 )
 wanted(

@@ -1,2 +1,4 @@
+pub mod ErrorAnswers
 pub mod Mapping
+pub mod Numbers
 pub mod Words

@@ -43,13 +43,14 @@ IsCommandOf name found (Profile g t start memo steps) = (name ≡ codes "profile
     × (first_value found (codes "start") ≡ option_map string_bytes start)
     × (memo ≡ memo_or found default_profile_memo)
     × (number_at found (codes "steps") ≡ steps)
-IsCommandOf name found (Coverage g texts start memo steps) = (name ≡ codes "profile")
+IsCommandOf name found (Coverage g texts start memo steps prefix) = (name ≡ codes "profile")
     × IsFlagAt found (codes "coverage") true
     × (first_value found (codes "G") ≡ Some (string_bytes g))
     × (all_values found (codes "T") ≡ map string_bytes texts.items)
     × (first_value found (codes "start") ≡ option_map string_bytes start)
     × (memo ≡ memo_or found default_coverage_memo)
     × (number_at found (codes "steps") ≡ steps)
+    × IsFlagAt found (codes "prefix") prefix
 IsCommandOf name found (Explain g texts files_from null start memo steps rules terminals quiet) = (name ≡ codes "explain")
     × (first_value found (codes "G") ≡ Some (string_bytes g))
     × (all_values found (codes "T") ≡ map string_bytes texts.items)

@@ -91,6 +91,7 @@ fn profile<'a>(alloc: Global) -> Result<Command<'a>, AllocError> {
             "coverage",
             "Prints the rules and alternatives that none of the texts uses",
         ))?
+        .arg(prefix_flag(alloc)?)?
         .arg(start_option(alloc))?
         .arg(profile_memo_option(alloc))?
         .arg(steps_option(alloc).default_value("1000000000"))
@@ -227,6 +228,16 @@ fn null_flag<'a>(alloc: Global) -> Result<Arg<'a>, AllocError> {
         "Names in the list end at a zero byte instead of a line end",
     )
     .requires_arg("files-from")
+}
+
+// With `--coverage`, what counts as a match.
+fn prefix_flag<'a>(alloc: Global) -> Result<Arg<'a>, AllocError> {
+    flag(
+        alloc,
+        "prefix",
+        "Counts a text as a match if a prefix of it matches",
+    )
+    .requires_arg("coverage")
 }
 
 // The start rule.
@@ -381,10 +392,11 @@ grammar asks for by itself. The positions don't depend on the memo. \"consumed\"
 is there if the parse matched, and \"steps\" is the number of instructions.
 
 With --coverage, each text is parsed, and the line has the rules and alternatives
-that none of them uses: they have no node in any tree. Each has its place in the
-grammar file. This says what these texts show, not what can happen. A text whose
-parse takes more steps than --steps allows uses nothing; \"stopped\" counts these
-texts, and standard error names them.
+that match in none of them, predicates included. Each has its place in the grammar
+file; \"tried\" says whether a text tries it. This says what these texts show, not
+what can happen. \"matched\" counts the texts that match as a whole, or with --prefix
+those of which a prefix matches. A text whose parse takes more steps than --steps
+allows uses nothing; \"stopped\" counts these texts, and standard error names them.
 
 Status: 0 matched, or everything is used; 1 failed, or something is unused; 2 the
 grammar is refused; 3 wrong arguments, or an unknown rule; 4 a file can't be opened

@@ -1,10 +1,13 @@
 //! Parsing the command line arguments.
-ghost use Rattle.std.specs.Prelude.{◌≡◌, ◌≢◌, ◌≤◌, ◌∷◌, ℕ, List, [], IfOk, IfSome, Some, map, option_map, string_bytes, codes, true};
-ghost use Rattle.clap.specs.Matches.{found_of, first_value};
+ghost use Rattle.std.specs.Prelude.{◌≡◌, ◌≢◌, ◌≤◌, ◌∷◌, ℕ, List, [], IfOk, IfSome, IsErr, None, OkIff, Some, map, option_map, string_bytes, codes, true};
+ghost use Rattle.clap.specs.Matches.{found_of, first_value, one_text};
+ghost use Rattle.clap.specs.Values.{kind_of};
 ghost use Rattle.clap.specs.declared.parser.matches.Found.{Found};
 ghost use Rattle.clap.specs.Simple.{subcommand_rows_of};
 ghost use Rattle.clap.specs.Walk.{rows_of};
+ghost use Rattle.peg_cli.specs.ErrorAnswers.{IsAnswerToError};
 ghost use Rattle.peg_cli.specs.Mapping.{IsCommandOf, IsFlagAt, all_values, memo_or, number_at};
+ghost use Rattle.peg_cli.specs.Numbers.{IsNumberIn, number_in};
 ghost use Rattle.peg_cli.specs.Words.{IsAsking};
 
 use crate::command_line::{MAX_MEMO, MAX_STEPS, program};
@@ -64,14 +67,15 @@ pub enum Words {
         memo: u32,
         steps: Option<u64>,
     },
-    /// Print which rules and alternatives of grammar file `g` none of the text files `texts` uses. The other fields are
-    /// those of `ParseOptions`.
+    /// Print which rules and alternatives of grammar file `g` match in none of the text files `texts`. With `prefix`, a
+    /// text counts as a match if a prefix of it matches. The other fields are those of `ParseOptions`.
     Coverage {
         g: String,
         texts: Vec<String>,
         start: Option<String>,
         memo: u32,
         steps: Option<u64>,
+        prefix: bool,
     },
     /// Print where texts don't match grammar file `g`, as messages for people: first the text files `texts`, then those
     /// that file `files_from` lists; `-` is standard input. With `null`, names in that list end at a zero byte,
@@ -89,8 +93,8 @@ pub enum Words {
         terminals: bool,
         quiet: bool,
     },
-    /// Print which texts in the folders `folders` don't do by grammar file `g` what their names ask for, as messages for
-    /// people, and how many there are. The other fields are those of `ParseOptions`.
+    /// Print which texts in the folders `folders` don't do by grammar file `g` what their names ask for, as messages
+    /// for people, and how many there are. The other fields are those of `ParseOptions`.
     Test {
         g: String,
         folders: Vec<String>,
@@ -233,6 +237,7 @@ fn coverage_of(alloc: Global, matches: &ArgMatches<'_>) -> Result<Words, WordsFa
         start: optional_text(alloc, matches, "start")?,
         memo: memo_size_or(alloc, matches, COVERAGE_MEMO)?,
         steps: step_limit(alloc, matches)?,
+        prefix: matches.get_flag("prefix"),
     })
 }
 
@@ -339,10 +344,14 @@ fn optional_text(
     }
 }
 
-// The argument parser has checked the range; the test here is for the contract.
+// The capacity of the memo. It is refused if its text is no number, or one over the limit. The argument parser has
+// checked this; the test here is for the contract.
 fn memo_size(alloc: Global, matches: &ArgMatches<'_>) -> Result<u32, WordsFault>
     ensures range { IfOk result (λ memo. memo ≤ 1000000) }
     ensures number { IfOk result (λ memo. number_at (found_of matches.now) (codes "memo") ≡ Some memo) }
+    ensures absent { one_text (found_of matches.now) (codes "memo") ≡ None → IsErr result }
+    ensures given { (text : List ℕ) → one_text (found_of matches.now) (codes "memo") ≡ Some text
+        → OkIff result (IsNumberIn 0 1000000 text) (number_in text) }
 {
     match matches.try_get_one::<u32>("memo") {
         Ok(Some(memo)) if memo <= MAX_MEMO => Ok(memo),
@@ -355,6 +364,9 @@ fn memo_size_or(alloc: Global, matches: &ArgMatches<'_>, default: u32) -> Result
     requires { default ≤ 1000000 }
     ensures range { IfOk result (λ memo. memo ≤ 1000000) }
     ensures number { IfOk result (λ memo. memo ≡ memo_or (found_of matches.now) default) }
+    ensures absent { one_text (found_of matches.now) (codes "memo") ≡ None → result ≡ Ok default }
+    ensures given { (text : List ℕ) → one_text (found_of matches.now) (codes "memo") ≡ Some text
+        → OkIff result (IsNumberIn 0 1000000 text) (number_in text) }
 {
     match matches.try_get_one::<u32>("memo") {
         Ok(None) => Ok(default),
@@ -368,6 +380,9 @@ fn step_limit(alloc: Global, matches: &ArgMatches<'_>) -> Result<Option<u64>, Wo
     ensures range { IfOk result (λ steps.
         IfSome steps (λ max_steps. (1 ≤ max_steps) × (max_steps ≤ 1000000000000))) }
     ensures number { IfOk result (λ steps. number_at (found_of matches.now) (codes "steps") ≡ steps) }
+    ensures absent { one_text (found_of matches.now) (codes "steps") ≡ None → result ≡ Ok None }
+    ensures given { (text : List ℕ) → one_text (found_of matches.now) (codes "steps") ≡ Some text
+        → OkIff result (IsNumberIn 1 1000000000000 text) (Some (number_in text)) }
 {
     match matches.try_get_one::<u64>("steps") {
         Ok(None) => Ok(None),
@@ -393,9 +408,11 @@ fn usage_error(alloc: Global, text: &str) -> WordsFault {
     }
 }
 
-// The help text, or the usage error with a hint on how to continue.
+// The help text, or the usage error with a hint on how to continue. Help is what the arguments requested alone, and not
+// what the argument parser shows where something is missing.
 fn from_clap_error(alloc: Global, words: &[String], error: &Error) -> Result<Words, WordsFault>
-    ensures { IfOk result IsAsking }
+    ensures asking { IfOk result IsAsking }
+    ensures kind { IsAnswerToError (kind_of error.now) result }
 {
     if error.kind() == ErrorKind::OutOfMemory {
         return Err(WordsFault::Memory);

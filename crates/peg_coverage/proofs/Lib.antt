@@ -1,4 +1,6 @@
+mod CalledLemmas
 mod CoverageLemmas
 mod CoveredLemmas
 mod StartLemmas
+mod TracedLemmas
 mod UnusedLemmas

@@ -1,9 +1,13 @@
+pub use Rattle.peg_diagnostics.specs.Attempts
 pub use Rattle.peg_diagnostics.specs.Diagnostic
 pub use Rattle.peg_diagnostics.specs.Marked
 pub use Rattle.peg_semantics.specs.Record
 pub use Rattle.peg_semantics.specs.Rules
 pub use Rattle.peg_semantics.specs.Starts
+pub mod Called
 pub mod Covered
 pub mod CoverageFaults
 pub mod CoverageParser
+pub mod Steps
+pub mod TracedTexts
 pub mod Unused

@@ -1,35 +1,54 @@
--- The rules and alternatives that texts don't use.
-use Rattle.std.specs.Prelude.{◌≡◌, ℕ, ◌-◌, Bool, List, [], Option, filter, length, map, not, slice_index_or}
+-- The rules and alternatives that match in no text, and whether they are tried.
+use Rattle.std.specs.Prelude.{◌≡◌, ℕ, Bool, List, Option, filter, length, map, not, slice_index_or}
 use Rattle.std.specs.List.{range_with_len}
 use Rattle.peg_bytes.specs.Extent.{Extent, between, extent}
-use Rattle.peg_diagnostics.specs.Marked.{extents_of_alternatives, marked_rules}
+use Rattle.peg_diagnostics.specs.Attempts.{Attempt, TriedRule, MatchedRule, TriedAlternative, MatchedAlternative}
+use Rattle.peg_diagnostics.specs.Marked.{extents_of_alternatives}
 use Rattle.peg_semantics.specs.Rules.{Rule}
-use Rattle.peg_tree.specs.Selected.{has_rule}
-use Rattle.peg_coverage.specs.Covered.{HaveCovered, ParseSettings}
+use Rattle.peg_coverage.specs.Covered.{AreParsed, ParsedText, ParseSettings, is_made}
 use Rattle.peg_coverage.specs.declared.coverage.Coverage.{Coverage}
+use Rattle.peg_coverage.specs.declared.coverage.UnusedAlternative.{UnusedAlternative}
+use Rattle.peg_coverage.specs.declared.coverage.UnusedRule.{UnusedRule}
+use Rattle.peg_coverage.specs.declared.text_match.RequiredMatch.{RequiredMatch}
 
--- the numbers that aren't in a set, of `count` numbers from `first` on
-abbrev pub numbers_outside : (used : List Bool) → (first count : ℕ) → List ℕ
-numbers_outside used first count = filter (λ number. not (has_rule used number)) (range_with_len first count)
+-- the numbers below `count` that don't match
+abbrev pub unmatched : (matches : ℕ → Bool) → (count : ℕ) → List ℕ
+unmatched matches count = filter (λ number. not (matches number)) (range_with_len 0 count)
 
--- the numbers of the rules that aren't in a set
-abbrev pub unused_rules : List Rule → (used : List Bool) → List ℕ
-unused_rules rules used = numbers_outside used 0 (length rules)
+-- a rule by its number, and whether it is tried
+abbrev pub RuleUse : Type 0
+RuleUse = ℕ × Bool
 
--- the extents of the alternatives that aren't in a set; the markers of alternatives come after the rules
-abbrev pub unused_alternatives : List Rule → (used : List Bool) → List Extent
-unused_alternatives rules used =
+-- an alternative by its extent, and whether it is tried
+abbrev pub AlternativeUse : Type 0
+AlternativeUse = Extent × Bool
+
+-- The rules that don't match, in ascending order, if `made` says which attempts are made.
+abbrev pub unused_rules : List Rule → (made : Attempt → Bool) → List RuleUse
+unused_rules rules made =
+    map (λ rule. (rule, made (TriedRule rule))) (unmatched (λ rule. made (MatchedRule rule)) (length rules))
+
+-- The alternatives that don't match, in written order.
+abbrev pub unused_alternatives : List Rule → (made : Attempt → Bool) → List AlternativeUse
+unused_alternatives rules made =
     let extents = extents_of_alternatives rules in
-    map (λ number. slice_index_or extents (number - length rules) (between 0 0))
-    (numbers_outside used (length rules) (length extents))
+    map (λ number. (slice_index_or extents number (between 0 0), made (TriedAlternative number)))
+    (unmatched (λ number. made (MatchedAlternative number)) (length extents))
 
--- What texts use of a grammar from a start: how many texts there are, how many match and which are stopped, and the rules
--- and alternatives that have no node in any of their trees.
-pub record IsCoverageOf (rules : List Rule) (start : List ℕ) (settings : ParseSettings) (texts : List (Option (List ℕ)))
-    (coverage : Coverage) : Type 0 where
-  pub set : List Bool
-  pub covered :
-      HaveCovered (marked_rules rules) start settings texts [] set coverage.matched coverage.stopped.items
+abbrev pub rule_use : UnusedRule → RuleUse
+rule_use unused = (unused.rule, unused.tried)
+
+abbrev pub alternative_use : UnusedAlternative → AlternativeUse
+alternative_use unused = (extent unused.span, unused.tried)
+
+-- What texts use of a grammar from a start: how many texts there are, how many match and which are stopped. The listed
+-- rules and alternatives are those that match in no text's record by Ford's relation for the grammar as written,
+-- predicates included. Each is listed with whether it is tried there.
+pub record IsCoverageOf (rules : List Rule) (start : List ℕ) (settings : ParseSettings) (needed : RequiredMatch)
+    (texts : List (Option (List ℕ))) (coverage : Coverage) : Type 0 where
+  pub parsed : List ParsedText
+  pub are : AreParsed rules start settings needed texts parsed coverage.matched coverage.stopped.items
   pub count : coverage.texts ≡ length texts
-  pub rules_unused : coverage.unused_rules.items ≡ unused_rules rules set
-  pub alternatives_unused : map extent coverage.unused_alternatives.items ≡ unused_alternatives rules set
+  pub rules_unused : map rule_use coverage.unused_rules.items ≡ unused_rules rules (is_made parsed)
+  pub alternatives_unused :
+      map alternative_use coverage.unused_alternatives.items ≡ unused_alternatives rules (is_made parsed)

@@ -4,12 +4,9 @@ use std::alloc::AllocError;
 use thiserror::Error;
 
 /// Why a grammar has no parser of coverage. The limits are those of grammars and of code. They apply to the marked
-/// grammar, which has a further rule for each alternative.
+/// grammar, which has two further rules for each alternative and one for each rule.
 #[derive(Clone, Copy, Debug, PartialEq, Eq, Error)]
 pub enum CoverageFault {
-    /// The grammar isn't well-formed.
-    #[error("the grammar isn't well-formed")]
-    NotWellFormed,
     /// The name of a rule contains an exclamation mark. No identifier does.
     #[error("the name of a rule contains an exclamation mark")]
     MarkedName,

@@ -1,26 +1,34 @@
 -- The texts in files, and what they use.
-use Rattle.std.proofs.Common.{◌≡◌, ◌↔◌, ◌∙◌, ℕ, ◌+◌, ◌<◌, ◌≤◌, ◌++◌, ◌≢◌, ◌⊎◌, inl, inr, All, Bool, true, false, ◌||◌, List, [], ◌∷◌}
-use Rattle.std.proofs.Common.{Option, None, Some, IfSome, add-one, ap, arith, cond, count_by, filter, get_or, length, map, option_map, refl, string_bytes}
+use Rattle.std.proofs.Common.{◌≡◌, ◌↔◌, ◌∙◌, ℕ, zero, suc, ◌+◌, ◌<◌, ◌≤◌, ◌++◌, ◌≢◌, inl, inr, All, Bool, true, false, ◌||◌, List, [], ◌∷◌}
+use Rattle.std.proofs.Common.{Option, None, Some, IfSome, add-one, ap, arith, cond, count_by, filter, get_or, length, map, not, option_map, refl, slice_index_or, string_bytes}
 use Rattle.std.proofs.Common.{length-take, IfErr, IfOk, OnErr, OnOk, Result, Ok, Err, subst, sym, take}
 use Rattle.std.specs.Prelude.{IsErrAnd}
 use Rattle.std.proofs.Math.Seq.{take-suc}
 use Rattle.std.proofs.lemmas.List.{length-map, map-append, take-map, take_all}
-use Rattle.std.proofs.lemmas.Bool.{cases_lt}
+use Rattle.std.proofs.lemmas.Bool.{cases_lt, false≢true}
 use Rattle.std.proofs.lemmas.Option.{slice_get-get_or, slice_get-map}
 use Rattle.std.proofs.lemmas.List.Elements.{All-cons, All-nil, All-push, filter-append}
 use Rattle.std.proofs.lemmas.List.Folds.{list_any-append}
 use Rattle.std.proofs.lemmas.List.Sums.{sum_by_push}
-use Rattle.std.specs.List.{enumerate_from, list_any}
+use Rattle.std.specs.List.{enumerate_from, list_any, range_with_len}
 use Rattle.std.specs.declared.alloc.Global.{Global}
 use Rattle.std.specs.declared.string.String.{String}
-use Rattle.peg_coverage.specs.Covered.{Ended, HasCovered, HaveCovered, IsOutcomeOf, IsParsed, ParsedText, ParseSettings, Stopped, TextOutcome}
-use Rattle.peg_coverage.specs.Covered.{is_match, is_stopped, is_used, match_of, stopped_numbers}
-use Rattle.peg_coverage.specs.declared.coverage_parser.TextMatch.{TextMatch}
-use Rattle.peg_coverage.specs.declared.coverage_parser.TextMatch.TheVariants as found
-use Rattle.peg_coverage_files.specs.CoveredTexts.{HasCoveredText, IsReadOf}
+use Rattle.peg_coverage.specs.Covered.{Ended, HasCovered, HaveCovered, IsOutcomeOf, IsParsed, ParsedText, ParseSettings}
+use Rattle.peg_coverage.specs.Covered.{Stopped, TextOutcome}
+use Rattle.peg_coverage.specs.Covered.{AreParsed, IsAttemptIn, has_noted, is_enough, is_made, is_match, is_stopped, makes}
+use Rattle.peg_coverage.specs.Covered.{stopped_numbers}
+use Rattle.peg_coverage.specs.Unused.{unused_alternatives, unused_rules}
+use Rattle.peg_coverage.specs.declared.text_match.RequiredMatch.{RequiredMatch}
+use Rattle.peg_coverage.specs.declared.text_match.TextMatch.{TextMatch}
+use Rattle.peg_diagnostics.specs.Attempts.{Attempt, TriedRule, MatchedRule, TriedAlternative, MatchedAlternative}
+use Rattle.peg_diagnostics.specs.Attempts.{shown_by}
+use Rattle.peg_diagnostics.specs.Marked.{alternatives_of_rules, extents_of_alternatives, marked_rules}
+use Rattle.peg_diagnostics.proofs.MarkBounds.{length-extents_of_rules}
+use Rattle.peg_bytes.specs.Extent.{Extent, between}
+use Rattle.peg_coverage_files.specs.CoveredTexts.{HasCoveredText, IsReadFault, IsReadOf}
 use Rattle.peg_coverage_files.specs.CoveringFaults.{IsFaultOf, IsFaultOfText, IsFirst, IsParsable}
 use Rattle.peg_coverage_files.specs.NamedTexts.{files_named, texts_in}
-use Rattle.peg_coverage_files.specs.TextEnds.{end_of, end_of_parse, matches_of, stops_of}
+use Rattle.peg_coverage_files.specs.TextEnds.{end_of, end_of_parse, ended_by, matches_of, stops_of}
 use Rattle.peg_coverage_files.specs.declared.counts.TextEnd.{TextEnd}
 use Rattle.peg_coverage_files.specs.declared.counts.TextEnd.TheVariants as end
 use Rattle.peg_coverage_files.specs.declared.fault.CoveringFault.{CoveringFault}
@@ -31,13 +39,27 @@ use Rattle.peg_semantics.specs.Starts.{start_name}
 use Rattle.peg_parser.specs.StepLimits.{TakesMoreSteps}
 use Rattle.peg_parser.specs.declared.parser.ParseFault.{ParseFault}
 use Rattle.peg_parser.specs.declared.parser.ParseFault.TheVariants as parse
-use Rattle.peg_io.specs.NamedFile.{Missing, NamedFile, bytes_of}
-use Rattle.peg_semantics.specs.Record.{Recognition, Record}
-use Rattle.peg_semantics.specs.Record as recognition
+use Rattle.peg_io.specs.NamedFile.{IsMissing, NamedFile, bytes_of, is_readable, open_error}
+use Rattle.peg_io.proofs.NamedFileLemmas.{no-open_error}
 use Rattle.peg_semantics.specs.Rules.{Rule}
 use Rattle.peg_tree.specs.Selected.{has_rule}
 
 -- ---- what is read of a file
+
+-- the fault of a file that was opened
+pub read-fault : {X : Type 0} (result : Result X CoveringFault) (name : List ℕ) (file : NamedFile) (never : Bool)
+    → ¬ IsMissing file → (is_readable file ≡ true → never ≡ true) → IfErr result (IsReadFault name never None)
+    → IfErr result (IsReadFault name (is_readable file) (open_error file))
+read-fault (Ok x) name file never there sure is = tt
+read-fault (Err (covering.File unread kind)) name file never there sure is =
+    (is.0, unsure (is_readable file) refl, no-open_error file (λ error. kind ≡ error) there)
+  where
+    unsure : (b : Bool) → is_readable file ≡ b → b ≡ false
+    unsure true readable = sym (sure readable) ∙ is.1
+    unsure false readable = refl
+read-fault (Err covering.NoSuchStart) name file never there sure is = is
+read-fault (Err covering.TextTooLong) name file never there sure is = is
+read-fault (Err covering.Memory) name file never there sure is = tt
 
 -- what is true of the bytes read is true of the file
 pub of-known : (known : Option (List ℕ)) (held : List ℕ) (P : List ℕ → Type 0) → IfSome known (λ bytes. bytes ≡ held)
@@ -59,62 +81,42 @@ whole-text known text covered read long not_long =
     let over : ¬ (max_text_bytes < length text) = λ more. not_long (long.1 more) in
     read.whole (omega (arith, over))
 
--- the end of a parse with a result
-end-of_match : (r : Recognition) → found.Matched ≡ match_of r → end.Matched ≡ end_of (Ended r)
-end-of_match recognition.Failed is = cc
-end-of_match (recognition.Matched last trees) is = refl
-
-end-of_failure : (r : Recognition) → found.Failed ≡ match_of r → end.Failed ≡ end_of (Ended r)
-end-of_failure recognition.Failed is = refl
-end-of_failure (recognition.Matched last trees) is = cc
-
--- what a text with a result adds to a set
-ended-text : (rules : List Rule) (start : List ℕ) (settings : ParseSettings) (known : Option (List ℕ)) (text : List ℕ)
-    (before after : List Bool) (match : TextMatch) (how : TextEnd) → IfSome known (λ bytes. bytes ≡ text)
-    → ((r : Recognition) → match ≡ match_of r → how ≡ end_of (Ended r))
-    → HasCovered rules text start before after match
-    → (settings.memo ≡ 0 → ¬ TakesMoreSteps rules text settings.start settings.steps)
-    → HasCoveredText rules start settings known before after how
-ended-text rules start settings known text before after match how whole ends covered enough = (
-  record { text = known; outcome = Ended covered.0.result },
-  refl,
-  of-known known text (λ bytes. IsOutcomeOf rules start settings bytes (Ended covered.0.result)) whole
-      ((covered.0, covered.1, refl), enough),
-  ends covered.0.result covered.2,
-  covered.3,
-)
-
 -- what the text in a file adds to a set
-pub text-covered : (rules : List Rule) (start : List ℕ) (settings : ParseSettings) (known : Option (List ℕ)) (text : List ℕ)
-    (before after : List Bool) (covered : Result TextMatch ParseFault) → IsReadOf known text
-    → (covered ≡ Err parse.TextTooLong) ↔ (max_text_bytes < length text)
+pub text-covered : (rules : List Rule) (start : List ℕ) (settings : ParseSettings) (needed : RequiredMatch)
+    (known : Option (List ℕ)) (text : List ℕ) (before after : List Bool) (covered : Result TextMatch ParseFault)
+    → IsReadOf known text → (covered ≡ Err parse.TextTooLong) ↔ (max_text_bytes < length text)
     → IfOk covered (HasCovered rules text start before after) → OnErr covered (after ≡ before)
-    → (covered ≡ Err parse.StepLimit → TakesMoreSteps rules text settings.start settings.steps)
-    → (settings.memo ≡ 0 → OnOk covered (¬ TakesMoreSteps rules text settings.start settings.steps))
-    → IfOk (end_of_parse covered) (HasCoveredText rules start settings known before after)
-text-covered rules start settings known text before after (Ok found.Matched) read long covered same limited enough =
-    ended-text rules start settings known text before after found.Matched end.Matched
-    (whole-text known text (Ok found.Matched) read long (λ bad. cc)) end-of_match covered enough
-text-covered rules start settings known text before after (Ok found.Failed) read long covered same limited enough =
-    ended-text rules start settings known text before after found.Failed end.Failed
-    (whole-text known text (Ok found.Failed) read long (λ bad. cc)) end-of_failure covered enough
-text-covered rules start settings known text before after (Err parse.NoSuchStart) read long covered same limited enough = tt
-text-covered rules start settings known text before after (Err parse.TextTooLong) read long covered same limited enough = tt
-text-covered rules start settings known text before after (Err parse.StepLimit) read long covered same limited enough = (
+    → (covered ≡ Err parse.StepLimit → TakesMoreSteps (marked_rules rules) text settings.start settings.steps)
+    → (settings.memo ≡ 0 → OnOk covered (¬ TakesMoreSteps (marked_rules rules) text settings.start settings.steps))
+    → IfOk (end_of_parse needed covered) (HasCoveredText rules start settings needed known before after)
+text-covered rules start settings needed known text before after (Ok found) read long covered same limited enough =
+    let outcome = Ended found covered.1 in (
+      record { text = known; outcome = outcome },
+      refl,
+      of-known known text (λ bytes. IsOutcomeOf rules start settings bytes outcome)
+          (whole-text known text (Ok found) read long (λ bad. cc)) ((covered.0, covered.2, covered.3), enough),
+      refl,
+      covered.4,
+    )
+text-covered rules start settings needed known text before after (Err parse.NoSuchStart) read long covered same limited enough =
+    tt
+text-covered rules start settings needed known text before after (Err parse.TextTooLong) read long covered same limited enough =
+    tt
+text-covered rules start settings needed known text before after (Err parse.StepLimit) read long covered same limited enough = (
   record { text = known; outcome = Stopped },
   refl,
   of-known known text (λ bytes. IsOutcomeOf rules start settings bytes Stopped)
       (whole-text known text (Err parse.StepLimit) read long (λ bad. cc)) (limited refl),
   refl,
-  λ rule. ap (λ (set : List Bool). has_rule set rule) same,
+  λ attempt within. ap (λ (set : List Bool). has_noted rules set attempt) same,
 )
-text-covered rules start settings known text before after (Err parse.Memory) read long covered same limited enough = tt
+text-covered rules start settings needed known text before after (Err parse.Memory) read long covered same limited enough = tt
 
 -- a text whose parse doesn't refuse it is there, and isn't too long
 pub text-parsable : (rules : List Rule) (text : List ℕ) (named : Option (List ℕ)) (file : NamedFile)
-    (covered : Result TextMatch ParseFault) → file ≢ Missing → IsReadOf (bytes_of file) text
-    → HasParseFaults rules text named covered → OnOk (end_of_parse covered) (IsParsable file)
-text-parsable rules text named file covered present read faults = by covered refl
+    (needed : RequiredMatch) (covered : Result TextMatch ParseFault) → ¬ IsMissing file → IsReadOf (bytes_of file) text
+    → HasParseFaults rules text named covered → OnOk (end_of_parse needed covered) (IsParsable file)
+text-parsable rules text named file needed covered present read faults = by covered refl
   where
     allowed : ¬ (covered ≡ Err parse.NoSuchStart) → ¬ (covered ≡ Err parse.TextTooLong) → IsParsable file
     allowed known short =
@@ -127,9 +129,8 @@ text-parsable rules text named file covered present read faults = by covered ref
           of-known (bytes_of file) text (λ bytes. length bytes ≤ max_text_bytes) (read.whole within) within,
         )
 
-    by : (found : Result TextMatch ParseFault) → covered ≡ found → OnOk (end_of_parse found) (IsParsable file)
-    by (Ok found.Matched) is = allowed (λ bad. cc) (λ bad. cc)
-    by (Ok found.Failed) is = allowed (λ bad. cc) (λ bad. cc)
+    by : (found : Result TextMatch ParseFault) → covered ≡ found → OnOk (end_of_parse needed found) (IsParsable file)
+    by (Ok found) is = allowed (λ bad. cc) (λ bad. cc)
     by (Err parse.NoSuchStart) is = tt
     by (Err parse.TextTooLong) is = tt
     by (Err parse.StepLimit) is = allowed (λ bad. cc) (λ bad. cc)
@@ -217,7 +218,7 @@ all-more P file_at names i name within is all one =
 pub all-names : (names : List (String Global)) (i : ℕ) → length names ≤ i → take i names ≡ names
 all-names names i over = take_all i names over
 
--- a rule with a node in the last of some results
+-- an attempt of the last of some texts
 noted-more : (last one before after mid : Bool) → after ≡ (last || mid) → mid ≡ (one || before)
     → after ≡ ((one || (last || false)) || before)
 noted-more true true before after mid now then = now
@@ -227,11 +228,14 @@ noted-more false false before after mid now then = now ∙ then
 
 -- ---- counts
 
--- whether a text matches, and whether it is stopped
-match-count : (o : TextOutcome) → cond (is_match o) 1 0 ≡ matches_of (end_of o)
-match-count (Ended recognition.Failed) = refl
-match-count (Ended (recognition.Matched last trees)) = refl
-match-count Stopped = refl
+-- whether a text matches
+match-count : (needed : RequiredMatch) (o : TextOutcome) → cond (is_match needed o) 1 0 ≡ matches_of (end_of needed o)
+match-count needed (Ended found attempts) = by (is_enough needed found)
+  where
+    by : (b : Bool) → cond b 1 0 ≡ matches_of (ended_by b)
+    by true = refl
+    by false = refl
+match-count needed Stopped = refl
 
 -- there are at most as many matches as texts
 pub few-more : (how : TextEnd) (old new number : ℕ) → new ≡ old + matches_of how → old ≤ number → new ≤ number + 1
@@ -240,14 +244,15 @@ few-more end.Failed old new number is few = omega (arith, is, few)
 few-more end.Stopped old new number is few = omega (arith, is, few)
 
 -- the number of matches with a further text
-matches-more : (parsed : List ParsedText) (item : ParsedText) (matched more : ℕ)
-    → matched ≡ count_by (λ (t : ParsedText). is_match t.outcome) parsed → more ≡ matched + matches_of (end_of item.outcome)
-    → more ≡ count_by (λ (t : ParsedText). is_match t.outcome) (parsed ++ item ∷ [])
-matches-more parsed item matched more is next =
-    let one = λ (t : ParsedText). cond (is_match t.outcome) 1 0 in
-    let last : one item ≡ matches_of (end_of item.outcome) = match-count item.outcome in
-    let all : count_by (λ (t : ParsedText). is_match t.outcome) (parsed ++ item ∷ [])
-    ≡ count_by (λ (t : ParsedText). is_match t.outcome) parsed + one item = sum_by_push one parsed item in
+matches-more : (needed : RequiredMatch) (parsed : List ParsedText) (item : ParsedText) (matched more : ℕ)
+    → matched ≡ count_by (λ (t : ParsedText). is_match needed t.outcome) parsed
+    → more ≡ matched + matches_of (end_of needed item.outcome)
+    → more ≡ count_by (λ (t : ParsedText). is_match needed t.outcome) (parsed ++ item ∷ [])
+matches-more needed parsed item matched more is next =
+    let one = λ (t : ParsedText). cond (is_match needed t.outcome) 1 0 in
+    let last : one item ≡ matches_of (end_of needed item.outcome) = match-count needed item.outcome in
+    let all : count_by (λ (t : ParsedText). is_match needed t.outcome) (parsed ++ item ∷ [])
+    ≡ count_by (λ (t : ParsedText). is_match needed t.outcome) parsed + one item = sum_by_push one parsed item in
     omega (arith, is, next, last, all)
 
 -- whether a numbered text is stopped
@@ -267,69 +272,123 @@ enumerate-more n (first ∷ rest) item =
     ap (λ (l : List (ℕ × ParsedText)). (n, first) ∷ l) (enumerate-more (n + 1) rest item
     ∙ ap (λ (k : ℕ). enumerate_from (n + 1) rest ++ (k, item) ∷ []) next)
 
-one-stop : (number : ℕ) (text : Option (List ℕ)) (o : TextOutcome)
-    → map number_in (filter is_stop ((number, record { text = text; outcome = o }) ∷ [])) ≡ stops_of number (end_of o)
-one-stop number text (Ended recognition.Failed) = refl
-one-stop number text (Ended (recognition.Matched last trees)) = refl
-one-stop number text Stopped = refl
+one-stop : (needed : RequiredMatch) (number : ℕ) (text : Option (List ℕ)) (o : TextOutcome)
+    → map number_in (filter is_stop ((number, record { text = text; outcome = o }) ∷ []))
+    ≡ stops_of number (end_of needed o)
+one-stop needed number text (Ended found attempts) = by (is_enough needed found)
+  where
+    by : (b : Bool) → [] ≡ stops_of number (ended_by b)
+    by true = refl
+    by false = refl
+one-stop needed number text Stopped = refl
 
 -- the numbers of the stopped texts with a further text
-stops-more : (parsed : List ParsedText) (item : ParsedText)
-    → stopped_numbers (parsed ++ item ∷ []) ≡ stopped_numbers parsed ++ stops_of (length parsed) (end_of item.outcome)
-stops-more parsed item =
+stops-more : (needed : RequiredMatch) (parsed : List ParsedText) (item : ParsedText)
+    → stopped_numbers (parsed ++ item ∷ [])
+    ≡ stopped_numbers parsed ++ stops_of (length parsed) (end_of needed item.outcome)
+stops-more needed parsed item =
     let one : ℕ × ParsedText = (length parsed, item) in
     let number : 0 + length parsed ≡ length parsed = omega arith in
     ap (λ (l : List (ℕ × ParsedText)). map number_in (filter is_stop l)) (enumerate-more 0 parsed item
     ∙ ap (λ (k : ℕ). enumerate_from 0 parsed ++ (k, item) ∷ []) number)
     ∙ ap (map number_in) (filter-append is_stop (enumerate_from 0 parsed) (one ∷ []))
     ∙ map-append number_in (filter is_stop (enumerate_from 0 parsed)) (filter is_stop (one ∷ []))
-    ∙ ap (λ (l : List ℕ). stopped_numbers parsed ++ l) (one-stop (length parsed) item.text item.outcome)
+    ∙ ap (λ (l : List ℕ). stopped_numbers parsed ++ l) (one-stop needed (length parsed) item.text item.outcome)
 
 -- the texts so far and a further one
-pub covered-more : (rules : List Rule) (start : List ℕ) (settings : ParseSettings) (files : List NamedFile) (file : NamedFile)
-    (before mid after : List Bool) (how : TextEnd) (number matched more : ℕ) (stopped now : List ℕ)
-    → number ≡ length files → HaveCovered rules start settings (texts_in files) before mid matched stopped
-    → HasCoveredText rules start settings (bytes_of file) mid after how → more ≡ matched + matches_of how
+pub covered-more : (rules : List Rule) (start : List ℕ) (settings : ParseSettings) (needed : RequiredMatch)
+    (files : List NamedFile) (file : NamedFile) (before mid after : List Bool) (how : TextEnd) (number matched more : ℕ)
+    (stopped now : List ℕ) → number ≡ length files
+    → HaveCovered rules start settings needed (texts_in files) before mid matched stopped
+    → HasCoveredText rules start settings needed (bytes_of file) mid after how → more ≡ matched + matches_of how
     → now ≡ stopped ++ stops_of number how
-    → HaveCovered rules start settings (texts_in (files ++ file ∷ [])) before after more now
-covered-more rules start settings files file before mid after how number matched more stopped now at so_far one count stop =
+    → HaveCovered rules start settings needed (texts_in (files ++ file ∷ [])) before after more now
+covered-more rules start settings needed files file before mid after how number matched more stopped now at so_far one count
+    stop =
     let item = one.0 in
+    let parsed = so_far.parsed in
+    let are = so_far.are in
     let text = λ (t : ParsedText). t.text in
-    let size : number ≡ length so_far.parsed =
-    at ∙ sym (length-map files bytes_of) ∙ sym (ap length so_far.of_texts) ∙ length-map so_far.parsed text in
+    let size : number ≡ length parsed =
+    at ∙ sym (length-map files bytes_of) ∙ sym (ap length are.of_texts) ∙ length-map parsed text in
     record {
-      parsed = so_far.parsed ++ item ∷ [];
-      of_texts = map-append text so_far.parsed (item ∷ [])
-          ∙ (λ i. so_far.of_texts i ++ one.1 i ∷ [])
-          ∙ sym (map-append bytes_of files (file ∷ []));
-      right = All-push (IsParsed rules start settings) so_far.parsed item so_far.right one.2;
-      used = λ rule.
-          let has = λ (t : ParsedText). is_used rule t.outcome in
-          noted-more (has item) (list_any has so_far.parsed) (has_rule before rule) (has_rule after rule) (has_rule mid rule)
-          (one.4 rule) (so_far.used rule)
-          ∙ ap (λ (b : Bool). b || has_rule before rule) (sym (list_any-append has so_far.parsed (item ∷ [])));
-      matches = matches-more so_far.parsed item matched more so_far.matches
-          (count ∙ ap (λ (e : TextEnd). matched + matches_of e) one.3);
-      stops = stop
-          ∙ (λ i. so_far.stops i ++ stops_of (size i) (one.3 i))
-          ∙ sym (stops-more so_far.parsed item);
+      parsed = parsed ++ item ∷ [];
+      are = record {
+        of_texts = map-append text parsed (item ∷ [])
+            ∙ (λ i. are.of_texts i ++ one.1 i ∷ [])
+            ∙ sym (map-append bytes_of files (file ∷ []));
+        right = All-push (IsParsed rules start settings) parsed item are.right one.2;
+        matches = matches-more needed parsed item matched more are.matches
+            (count ∙ ap (λ (e : TextEnd). matched + matches_of e) one.3);
+        stops = stop
+            ∙ (λ i. are.stops i ++ stops_of (size i) (one.3 i))
+            ∙ sym (stops-more needed parsed item);
+      };
+      noted = λ attempt within.
+          let has = λ (t : ParsedText). makes attempt t.outcome in
+          noted-more (has item) (list_any has parsed) (has_noted rules before attempt) (has_noted rules after attempt)
+          (has_noted rules mid attempt) (one.4 attempt within) (so_far.noted attempt within)
+          ∙ ap (λ (b : Bool). b || has_noted rules before attempt) (sym (list_any-append has parsed (item ∷ [])));
     }
 
--- an empty set has no rules
-pub covered-empty : (rules : List Rule) (start : List ℕ) (settings : ParseSettings) (texts : List (Option (List ℕ)))
-    (before after : List Bool) (matched : ℕ) (stopped : List ℕ) → ((rule : ℕ) → has_rule before rule ≡ false)
-    → HaveCovered rules start settings texts before after matched stopped
-    → HaveCovered rules start settings texts [] after matched stopped
-covered-empty rules start settings texts before after matched stopped empty covered = record {
-  parsed = covered.parsed;
-  of_texts = covered.of_texts;
-  right = covered.right;
-  used = λ rule.
-      covered.used rule
-      ∙ ap (λ (b : Bool). list_any (λ (t : ParsedText). is_used rule t.outcome) covered.parsed || b) (empty rule);
-  matches = covered.matches;
-  stops = covered.stops;
-}
+-- a set that was empty has the attempts of the texts
+or-false : (b : Bool) → (b || false) ≡ b
+or-false true = refl
+or-false false = refl
+
+pub noted-made : (rules : List Rule) (start : List ℕ) (settings : ParseSettings) (needed : RequiredMatch)
+    (texts : List (Option (List ℕ))) (before after : List Bool) (matched : ℕ) (stopped : List ℕ)
+    → ((rule : ℕ) → has_rule before rule ≡ false)
+    → (covered : HaveCovered rules start settings needed texts before after matched stopped)
+    → (attempt : Attempt) → IsAttemptIn rules attempt → has_noted rules after attempt ≡ is_made covered.parsed attempt
+noted-made rules start settings needed texts before after matched stopped empty covered attempt within =
+    covered.noted attempt within
+    ∙ ap (λ (b : Bool). is_made covered.parsed attempt || b)
+    (empty (shown_by (length rules) (alternatives_of_rules rules) attempt))
+    ∙ or-false (is_made covered.parsed attempt)
+
+-- ---- the same rules and alternatives by another test of attempts
+
+same-unmatched : {X : Type 0} (f g : ℕ → X) (p q : ℕ → Bool) (first count : ℕ)
+    → ((n : ℕ) → n < first + count → p n ≡ q n) → ((n : ℕ) → n < first + count → f n ≡ g n)
+    → map f (filter (λ n. not (p n)) (range_with_len first count))
+    ≡ map g (filter (λ n. not (q n)) (range_with_len first count))
+same-unmatched f g p q first zero tests entries = refl
+same-unmatched f g p q first (suc count) tests entries =
+    by (p first) (q first) (tests first (omega arith)) (entries first (omega arith))
+    (same-unmatched f g p q (first + 1) count (λ n less. tests n (omega (arith, less)))
+    (λ n less. entries n (omega (arith, less))))
+  where
+    by : (b c : Bool) → b ≡ c → f first ≡ g first
+        → map f (filter (λ n. not (p n)) (range_with_len (first + 1) count))
+        ≡ map g (filter (λ n. not (q n)) (range_with_len (first + 1) count))
+        → map f (cond (not b) (first ∷ filter (λ n. not (p n)) (range_with_len (first + 1) count))
+        (filter (λ n. not (p n)) (range_with_len (first + 1) count)))
+        ≡ map g (cond (not c) (first ∷ filter (λ n. not (q n)) (range_with_len (first + 1) count))
+        (filter (λ n. not (q n)) (range_with_len (first + 1) count)))
+    by true true is here later = later
+    by false false is here later = λ i. here i ∷ later i
+    by true false is here later = absurd (false≢true (sym is))
+    by false true is here later = absurd (false≢true is)
+
+module _ (rules : List Rule) (made other : Attempt → Bool)
+    (same : (attempt : Attempt) → IsAttemptIn rules attempt → made attempt ≡ other attempt) where
+  pub same-rules : unused_rules rules made ≡ unused_rules rules other
+  same-rules =
+      same-unmatched (λ rule. (rule, made (TriedRule rule))) (λ rule. (rule, other (TriedRule rule)))
+      (λ rule. made (MatchedRule rule)) (λ rule. other (MatchedRule rule)) 0 (length rules)
+      (λ n less. same (MatchedRule n) (omega (arith, less)))
+      (λ n less. ap (λ b. (n, b)) (same (TriedRule n) (omega (arith, less))))
+
+  pub same-alternatives : unused_alternatives rules made ≡ unused_alternatives rules other
+  same-alternatives =
+      let extents = extents_of_alternatives rules in
+      let count = length-extents_of_rules rules in
+      let extent_at : ℕ → Extent = λ n. slice_index_or extents n (between 0 0) in
+      same-unmatched (λ n. (extent_at n, made (TriedAlternative n))) (λ n. (extent_at n, other (TriedAlternative n)))
+      (λ n. made (MatchedAlternative n)) (λ n. other (MatchedAlternative n)) 0 (length extents)
+      (λ n less. same (MatchedAlternative n) (omega (arith, less, count)))
+      (λ n less. ap (λ b. (extent_at n, b)) (same (TriedAlternative n) (omega (arith, less, count))))
 
 -- ---- the numbers of stopped texts
 
@@ -348,12 +407,12 @@ stops-from bound n (item ∷ rest) within =
     by false later = later
 
 -- a stopped text is one of the texts
-pub stopped-below : (rules : List Rule) (start : List ℕ) (settings : ParseSettings) (texts : List (Option (List ℕ)))
-    (before after : List Bool) (matched : ℕ) (stopped : List ℕ)
-    → HaveCovered rules start settings texts before after matched stopped
+pub stopped-below : (rules : List Rule) (start : List ℕ) (settings : ParseSettings) (needed : RequiredMatch)
+    (texts : List (Option (List ℕ))) (parsed : List ParsedText) (matched : ℕ) (stopped : List ℕ)
+    → AreParsed rules start settings needed texts parsed matched stopped
     → All (λ (number : ℕ). number < length texts) stopped
-stopped-below rules start settings texts before after matched stopped covered =
-    let size = ap length covered.of_texts in
-    let count = length-map covered.parsed (λ (t : ParsedText). t.text) in
-    subst (All (λ (number : ℕ). number < length texts)) (sym covered.stops)
-    (stops-from (length texts) 0 covered.parsed (omega (arith, size, count)))
+stopped-below rules start settings needed texts parsed matched stopped are =
+    let size = ap length are.of_texts in
+    let count = length-map parsed (λ (t : ParsedText). t.text) in
+    subst (All (λ (number : ℕ). number < length texts)) (sym are.stops)
+    (stops-from (length texts) 0 parsed (omega (arith, size, count)))

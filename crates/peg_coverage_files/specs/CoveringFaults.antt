@@ -1,7 +1,7 @@
 -- Why it isn't known what texts use.
-use Rattle.std.specs.Prelude.{◌≡◌, ◌≢◌, ℕ, ◌<◌, ◌≤◌, All, false, IfSome, List, None, Option, Some, length, slice_get, take}
+use Rattle.std.specs.Prelude.{◌≡◌, ℕ, ◌<◌, ◌≤◌, All, false, IfSome, List, None, Option, Some, length, slice_get, take}
 use Rattle.peg_grammar.specs.Limits.{max_text_bytes}
-use Rattle.peg_io.specs.NamedFile.{Missing, NamedFile, bytes_of, is_readable}
+use Rattle.peg_io.specs.NamedFile.{IsMissing, NamedFile, bytes_of, is_readable, open_error}
 use Rattle.peg_semantics.specs.Rules.{Rule}
 use Rattle.peg_semantics.specs.Starts.{start_name}
 use Rattle.peg_coverage_files.specs.declared.fault.CoveringFault.{CoveringFault}
@@ -9,11 +9,11 @@ use Rattle.peg_coverage_files.specs.declared.fault.CoveringFault.TheVariants.{Fi
 
 -- the text in a file is there, and it is too long if its bytes are specified
 abbrev pub IsTooLong : NamedFile → Type 0
-IsTooLong file = (file ≢ Missing) × IfSome (bytes_of file) (λ text. max_text_bytes < length text)
+IsTooLong file = (¬ IsMissing file) × IfSome (bytes_of file) (λ text. max_text_bytes < length text)
 
 -- the text in a file is there, and it isn't too long if its bytes are specified
 abbrev pub IsParsable : NamedFile → Type 0
-IsParsable file = (file ≢ Missing) × IfSome (bytes_of file) (λ text. length text ≤ max_text_bytes)
+IsParsable file = (¬ IsMissing file) × IfSome (bytes_of file) (λ text. length text ≤ max_text_bytes)
 
 -- an element of a list has a property, and all before it have another one
 pub record IsFirst {X : Type 0} (IsBefore Is : X → Type 0) (elements : List X) : Type 0 where
@@ -23,11 +23,13 @@ pub record IsFirst {X : Type 0} (IsBefore Is : X → Type 0) (elements : List X)
   pub before : All IsBefore (take index elements)
   pub is : Is element
 
--- Whether a fault is true of the text in the file with a name. A file fault has this name, and the file isn't specified to
--- be readable. If its bytes aren't specified, little is known. A failed allocation is possible for any text.
+-- Whether a fault is true of the text in the file with a name. A file fault has this name, and the file isn't specified
+-- to be readable. If it is specified that the file can't be opened, the fault has the kind of that error. If its bytes
+-- aren't specified, little is known. A failed allocation is possible for any text.
 abbrev pub IsFaultOfText : List Rule → (file_at : List ℕ → NamedFile) → (name : List ℕ) → (start : Option (List ℕ))
     → CoveringFault → Type 0
 IsFaultOfText rules file_at name start (File unread kind) = (unread.now ≡ name) × (is_readable (file_at name) ≡ false)
+    × IfSome (open_error (file_at name)) (λ error. kind ≡ error)
 IsFaultOfText rules file_at name start NoSuchStart = start_name rules start ≡ None
 IsFaultOfText rules file_at name start TextTooLong = IsTooLong (file_at name)
 IsFaultOfText rules file_at name start Memory = Unit {0}

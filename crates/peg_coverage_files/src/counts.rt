@@ -6,9 +6,9 @@ use std::alloc::AllocError;
 /// How the parse of a text ends.
 #[derive(Clone, Copy)]
 pub(crate) enum TextEnd {
-    /// A prefix of the text matches.
+    /// The text matches as required.
     Matched,
-    /// The text doesn't match.
+    /// The text doesn't match as required.
     Failed,
     /// The parse takes more steps than the limit allows.
     Stopped,
@@ -17,7 +17,7 @@ pub(crate) enum TextEnd {
 /// The counts of texts by how their parses end.
 #[derive(Drop)]
 pub(crate) struct TextCounts {
-    /// How many texts match.
+    /// How many texts match as required.
     pub(crate) matched: u64,
     /// The numbers of the stopped texts, in ascending order.
     pub(crate) stopped: Vec<usize>,

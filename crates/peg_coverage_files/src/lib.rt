@@ -8,4 +8,4 @@ mod reading;
 
 pub use covering::cover_files;
 pub use fault::CoveringFault;
-pub use peg_coverage::{Coverage, CoverageParser};
+pub use peg_coverage::{Coverage, CoverageParser, RequiredMatch};

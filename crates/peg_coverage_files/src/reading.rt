@@ -1,6 +1,6 @@
 //! Reads texts by name.
-ghost use Rattle.std.specs.Prelude.{◌≡◌, ◌≢◌, false, IfErr, IfOk, OnOk};
-ghost use Rattle.peg_io.specs.NamedFile.{Missing, bytes_of, is_readable};
+ghost use Rattle.std.specs.Prelude.{◌≡◌, false, IfErr, IfOk, None, OnOk};
+ghost use Rattle.peg_io.specs.NamedFile.{IsMissing, bytes_of, is_readable, open_error};
 ghost use Rattle.peg_coverage_files.specs.CoveredTexts.{IsReadFault, IsReadOf};
 
 use crate::fault::CoveringFault;
@@ -16,8 +16,9 @@ pub(crate) fn read_text<'a, O: Opener>(
     name: &'a str,
 ) -> Result<Vec<u8>, CoveringFault<'a>>
     ensures read { IfOk result (λ text. IsReadOf (bytes_of (O.file_at files.now name.now)) text.items) }
-    ensures present { OnOk result (O.file_at files.now name.now ≢ Missing) }
-    ensures unread { IfErr result (IsReadFault name.now (is_readable (O.file_at files.now name.now))) }
+    ensures present { OnOk result (¬ IsMissing (O.file_at files.now name.now)) }
+    ensures unread { IfErr result (IsReadFault name.now (is_readable (O.file_at files.now name.now))
+        (open_error (O.file_at files.now name.now))) }
 {
     match files.open(name) {
         Ok(mut file) => read_source(alloc, &mut file, name),
@@ -34,7 +35,7 @@ fn read_source<'a, T: Source>(
 ) -> Result<Vec<u8>, CoveringFault<'a>>
     requires { T.failed source.old ≡ false }
     ensures read { IfOk result (λ text. IsReadOf (T.left source.old) text.items) }
-    ensures unread { IfErr result (IsReadFault name.now (T.never_fails source.old)) }
+    ensures unread { IfErr result (IsReadFault name.now (T.never_fails source.old) None) }
 {
     match read_up_to(alloc, source, MAX_TEXT_BYTES + 1) {
         Ok(text) => Ok(text),

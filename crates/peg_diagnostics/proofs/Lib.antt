@@ -1,4 +1,5 @@
 mod AnyExpression
+pub mod AttemptLemmas
 mod BlamedItems
 pub mod BlameLemmas
 mod BlameResults
@@ -17,7 +18,7 @@ pub mod MarkBounds
 pub mod MarkedWellFormed
 mod MarkLoops
 pub mod MarkedGrammar
-mod MarkedKept
+pub mod MarkedKept
 mod MarkedLookups
 mod MarkedOutcomes
 mod MarkedRecords

@@ -10,7 +10,7 @@ use Rattle.peg_grammar.specs.Written.{form_of, rule_of, rules_of}
 use Rattle.peg_grammar.specs.declared.expr.Definition.{Definition}
 use Rattle.peg_grammar.specs.declared.expr.Expr.{Expr}
 use Rattle.peg_diagnostics.specs.Diagnostic.{form_extent}
-use Rattle.peg_diagnostics.specs.Marked.{alternatives, mark, mark_all, mark_each, marker_rule, marker_rules, with_marker}
+use Rattle.peg_diagnostics.specs.Marked.{alternatives, doubled, mark, mark_all, mark_each, marker_rule, marker_rules, with_markers}
 
 -- the items of a sequence marked, as a list
 abbrev pub marked_list : (number : ℕ) → List Form → List Form
@@ -21,7 +21,7 @@ marked_list number (e ∷ rest) = mark number e ∷ marked_list (number + altern
 abbrev pub marked_each : (number : ℕ) → List Form → List Form
 marked_each number [] = []
 marked_each number (e ∷ rest) =
-    with_marker number (form_extent e) (mark (number + 1) e) ∷ marked_each (number + 1 + alternatives e) rest
+    with_markers number (form_extent e) (mark (number + 1) e) ∷ marked_each (number + 1 + alternatives e) rest
 
 pub forms-marked : (number : ℕ) (items : List Form) → forms (marked_list number items) ≡ mark_all number (forms items)
 forms-marked number [] = refl
@@ -30,7 +30,7 @@ forms-marked number (e ∷ rest) = ap (Then (mark number e)) (forms-marked (numb
 pub forms-each : (number : ℕ) (items : List Form) → forms (marked_each number items) ≡ mark_each number (forms items)
 forms-each number [] = refl
 forms-each number (e ∷ rest) =
-    ap (Then (with_marker number (form_extent e) (mark (number + 1) e)))
+    ap (Then (with_markers number (form_extent e) (mark (number + 1) e)))
     (forms-each (number + 1 + alternatives e) rest)
 
 -- the images from index i on are that of the element there and those after it
@@ -57,7 +57,7 @@ one_more_item items i item copy so_far new next after within is pushed marked co
 -- one more alternative is marked
 pub one_more_alternative : (items : List Expr) (i : ℕ) (item copy : Expr) (so_far new : List Expr) (next after : ℕ)
     → i < length items → item ≡ get_or items i item → new ≡ so_far ++ copy ∷ []
-    → form_of copy ≡ with_marker next (form_extent (form_of item)) (mark (next + 1) (form_of item))
+    → form_of copy ≡ with_markers next (form_extent (form_of item)) (mark (next + 1) (form_of item))
     → after ≡ next + 1 + alternatives (form_of item)
     → map form_of new ++ marked_each after (drop (i + 1) (map form_of items))
     ≡ map form_of so_far ++ marked_each next (drop i (map form_of items))
@@ -93,3 +93,15 @@ one_more_marker spans i span so_far new added number within is pushed made =
     ∙ append_assoc (rules_of so_far) (rule_of added ∷ []) later
     ∙ ap (λ r. rules_of so_far ++ r ∷ later) made
     ∙ ap (λ l. rules_of so_far ++ marker_rules number l) (sym (list-drop extent spans i span within is))
+
+-- one more span is added two times
+pub two_more_spans : (spans : List Span) (i : ℕ) (span : Span) (so_far middle new : List Span) → i < length spans
+    → span ≡ get_or spans i span → middle ≡ so_far ++ span ∷ [] → new ≡ middle ++ span ∷ []
+    → map extent new ++ doubled (drop (i + 1) (map extent spans))
+    ≡ map extent so_far ++ doubled (drop i (map extent spans))
+two_more_spans spans i span so_far middle new within is first second =
+    let later = doubled (drop (i + 1) (map extent spans)) in
+    ap (λ l. map extent l ++ later) (second ∙ ap (λ l. l ++ span ∷ []) first ∙ append_assoc so_far (span ∷ []) (span ∷ []))
+    ∙ ap (λ l. l ++ later) (map-append extent so_far (span ∷ span ∷ []))
+    ∙ append_assoc (map extent so_far) (extent span ∷ extent span ∷ []) later
+    ∙ ap (λ l. map extent so_far ++ doubled l) (sym (list-drop extent spans i span within is))

@@ -1,5 +1,5 @@
 -- The marked grammar of a grammar is a grammar, if no name of a rule has the mark of markers.
-use Rattle.std.proofs.Common.{◌≡◌, ◌≢◌, ◌⊎◌, inl, inr, ℕ, ◌+◌, ◌^◌, ◌<◌, ◌≤◌, List, [], ◌∷◌, ◌++◌, All, Contains, length}
+use Rattle.std.proofs.Common.{◌≡◌, ◌≢◌, ◌⊎◌, inl, inr, ℕ, ◌+◌, ◌*◌, ◌^◌, ◌<◌, ◌≤◌, List, [], ◌∷◌, ◌++◌, All, Contains, length}
 use Rattle.std.proofs.Common.{append-nil, refl, sym, ap, ap₂, ◌∙◌, subst, arith}
 use Rattle.std.specs.Fmt.{decimal}
 use Rattle.std.proofs.lemmas.Fmt.{decimal_injective}
@@ -15,24 +15,30 @@ use Rattle.peg_semantics.specs.Grammar.{IsGrammar, CountsAreInRange}
 use Rattle.peg_semantics.specs.Rules.{Rule, names, references, counts}
 use Rattle.peg_diagnostics.specs.Diagnostic.{HaveNoMark, form_extent}
 use Rattle.peg_diagnostics.specs.Marked.{alternatives, alternatives_of_all, alternatives_of_each, alternatives_of_rules}
-use Rattle.peg_diagnostics.specs.Marked.{extents_of_alternatives, mark, mark_all, mark_each, mark_rules, marked_rules}
-use Rattle.peg_diagnostics.specs.Marked.{marker_name, marker_rules, with_marker}
+use Rattle.peg_diagnostics.specs.Marked.{marker_extents, mark, mark_all, mark_each, mark_rules, marked_rules}
+use Rattle.peg_diagnostics.specs.Marked.{before_marker, marker_name, marker_rules, markers_of_rules, with_markers}
 use Rattle.peg_diagnostics.proofs.DiagnosticGrammar.{AllPairs-nil, AllPairs-cons, AllPairs-append, Apart, InRange}
 use Rattle.peg_diagnostics.proofs.KnownNames.{All-front, All-back, IsKnown}
 use Rattle.peg_diagnostics.proofs.Lookups.{Distinct, Contains-first}
-use Rattle.peg_diagnostics.proofs.MarkBounds.{length-extents_of_rules}
+use Rattle.peg_diagnostics.proofs.MarkBounds.{length-marker_extents}
 
 -- ---- distinct names
 
-names-mark : (number : ℕ) (rules : List Rule) → names (mark_rules number rules) ≡ names rules
-names-mark number [] = refl
-names-mark number (rule ∷ rules) = ap (λ l. rule.name ∷ l) (names-mark (number + alternatives rule.body) rules)
+names-mark : (number marker : ℕ) (rules : List Rule) → names (mark_rules number marker rules) ≡ names rules
+names-mark number marker [] = refl
+names-mark number marker (rule ∷ rules) =
+    ap (λ l. rule.name ∷ l) (names-mark (number + alternatives rule.body) (marker + 1) rules)
+
+-- the marked rules without the markers
+abbrev pub own_rules : List Rule → List Rule
+own_rules rules = mark_rules 0 (2 * alternatives_of_rules rules) rules
 
 pub names-marked : (rules : List Rule)
-    → names (marked_rules rules) ≡ names rules ++ names (marker_rules 0 (extents_of_alternatives rules))
+    → names (marked_rules rules) ≡ names rules ++ names (marker_rules 0 (marker_extents rules))
 names-marked rules =
-    map-append (λ (rule : Rule). rule.name) (mark_rules 0 rules) (marker_rules 0 (extents_of_alternatives rules))
-    ∙ ap (λ l. l ++ names (marker_rules 0 (extents_of_alternatives rules))) (names-mark 0 rules)
+    map-append (λ (rule : Rule). rule.name) (own_rules rules) (marker_rules 0 (marker_extents rules))
+    ∙ ap (λ l. l ++ names (marker_rules 0 (marker_extents rules)))
+    (names-mark 0 (2 * alternatives_of_rules rules) rules)
 
 pub marker-injective : (a b : ℕ) → a < 2 ^ 64 → b < 2 ^ 64 → marker_name a ≡ marker_name b → a ≡ b
 marker-injective a b small less same = decimal_injective a b small less (let both : decimal a ≡ decimal b = cc in both)
@@ -65,26 +71,35 @@ unmarked-apart name next (span ∷ spans) unmarked =
     (unmarked-apart name (next + 1) spans unmarked)
 
 pub distinct-marked : (rules : List Rule) → Distinct (names rules) → HaveNoMark rules
-    → alternatives_of_rules rules ≤ 2 ^ 64 → Distinct (names (marked_rules rules))
+    → markers_of_rules rules ≤ 2 ^ 64 → Distinct (names (marked_rules rules))
 distinct-marked rules distinct unmarked few =
-    let spans = extents_of_alternatives rules in
+    let spans = marker_extents rules in
     subst Distinct (sym (names-marked rules))
     (AllPairs-append Apart (names rules) (names (marker_rules 0 spans)) distinct
-    (marker_names-distinct 0 spans (omega (arith, few, length-extents_of_rules rules)))
+    (marker_names-distinct 0 spans (omega (arith, few, length-marker_extents rules)))
     (All-weaker (λ name. ¬ Contains name 33) (λ name. All (Apart name) (names (marker_rules 0 spans)))
     (λ name no. unmarked-apart name 0 spans no) (names rules) unmarked))
 
 -- ---- references
 
-module _ (known shown : List (List ℕ)) (total : ℕ)
+module _ (known shown : List (List ℕ)) (count total : ℕ)
     (kept : (name : List ℕ) → Contains known name → Contains shown name)
-    (markers : (number : ℕ) → number < total → Contains shown (marker_name number)) where
-  with_marker-refers : (number : ℕ) (span : Extent) (e : Form) → number < total
-      → All (IsKnown shown) (names_used e) → All (IsKnown shown) (names_used (with_marker number span e))
-  with_marker-refers number span e below all =
-      let call : Reference = record { name = marker_name number; span = span } in
-      All-cons (IsKnown shown) call (names_used e ++ []) (markers number below)
-      (All-append (IsKnown shown) (names_used e) [] all (All-nil (IsKnown shown)))
+    (markers : (marker : ℕ) → marker < 2 * total + count → Contains shown (marker_name marker)) where
+  -- an expression before the call of a marker
+  before_marker-refers : (marker : ℕ) (span : Extent) (e : Form) → marker < 2 * total + count
+      → All (IsKnown shown) (names_used e) → All (IsKnown shown) (names_used_by_all (before_marker marker span e))
+  before_marker-refers marker span e below all =
+      let call : Reference = record { name = marker_name marker; span = span } in
+      All-append (IsKnown shown) (names_used e) (call ∷ []) all
+      (All-cons (IsKnown shown) call [] (markers marker below) (All-nil (IsKnown shown)))
+
+  with_markers-refers : (number : ℕ) (span : Extent) (e : Form) → number < total
+      → All (IsKnown shown) (names_used e) → All (IsKnown shown) (names_used (with_markers number span e))
+  with_markers-refers number span e below all =
+      let call : Reference = record { name = marker_name (2 * number); span = span } in
+      All-cons (IsKnown shown) call (names_used_by_all (before_marker (2 * number + 1) span e))
+      (markers (2 * number) (omega (arith, below)))
+      (before_marker-refers (2 * number + 1) span e (omega (arith, below)) all)
 
   mutual
     mark-refers : (number : ℕ) (e : Form) → number + alternatives e ≤ total → All (IsKnown known) (names_used e)
@@ -98,9 +113,9 @@ module _ (known shown : List (List ℕ)) (total : ℕ)
     mark-refers number (Seq items span) within all = all_mark-refer number items within all
     mark-refers number (Choice first rest span) within all =
         let later = number + 1 + alternatives first in
-        All-append (IsKnown shown) (names_used (with_marker number (form_extent first) (mark (number + 1) first)))
+        All-append (IsKnown shown) (names_used (with_markers number (form_extent first) (mark (number + 1) first)))
         (names_used_by_all (mark_each later rest))
-        (with_marker-refers number (form_extent first) (mark (number + 1) first) (omega (arith, within))
+        (with_markers-refers number (form_extent first) (mark (number + 1) first) (omega (arith, within))
         (mark-refers (number + 1) first (omega (arith, within))
         (All-front (IsKnown known) (names_used first) (names_used_by_all rest) all)))
         (each_mark-refers later rest (omega (arith, within))
@@ -128,23 +143,25 @@ module _ (known shown : List (List ℕ)) (total : ℕ)
     each_mark-refers number End within all = All-nil (IsKnown shown)
     each_mark-refers number (Then e rest) within all =
         let later = number + 1 + alternatives e in
-        All-append (IsKnown shown) (names_used (with_marker number (form_extent e) (mark (number + 1) e)))
+        All-append (IsKnown shown) (names_used (with_markers number (form_extent e) (mark (number + 1) e)))
         (names_used_by_all (mark_each later rest))
-        (with_marker-refers number (form_extent e) (mark (number + 1) e) (omega (arith, within))
+        (with_markers-refers number (form_extent e) (mark (number + 1) e) (omega (arith, within))
         (mark-refers (number + 1) e (omega (arith, within))
         (All-front (IsKnown known) (names_used e) (names_used_by_all rest) all)))
         (each_mark-refers later rest (omega (arith, within))
         (All-back (IsKnown known) (names_used e) (names_used_by_all rest) all))
 
-  rules-refer : (number : ℕ) (rules : List Rule) → number + alternatives_of_rules rules ≤ total
-      → All (IsKnown known) (references rules) → All (IsKnown shown) (references (mark_rules number rules))
-  rules-refer number [] within all = All-nil (IsKnown shown)
-  rules-refer number (r ∷ rs) within all =
-      All-append (IsKnown shown) (names_used (mark number r.body))
-      (references (mark_rules (number + alternatives r.body) rs))
+  rules-refer : (number marker : ℕ) (rules : List Rule) → number + alternatives_of_rules rules ≤ total
+      → marker + length rules ≤ 2 * total + count → All (IsKnown known) (references rules)
+      → All (IsKnown shown) (references (mark_rules number marker rules))
+  rules-refer number marker [] within below all = All-nil (IsKnown shown)
+  rules-refer number marker (r ∷ rs) within below all =
+      All-append (IsKnown shown) (names_used_by_all (before_marker marker r.span (mark number r.body)))
+      (references (mark_rules (number + alternatives r.body) (marker + 1) rs))
+      (before_marker-refers marker r.span (mark number r.body) (omega (arith, below))
       (mark-refers number r.body (omega (arith, within))
-      (All-front (IsKnown known) (names_used r.body) (references rs) all))
-      (rules-refer (number + alternatives r.body) rs (omega (arith, within))
+      (All-front (IsKnown known) (names_used r.body) (references rs) all)))
+      (rules-refer (number + alternatives r.body) (marker + 1) rs (omega (arith, within)) (omega (arith, below))
       (All-back (IsKnown known) (names_used r.body) (references rs) all))
 
 -- markers refer to nothing and have no counts
@@ -177,18 +194,18 @@ marker_names-known next number (span ∷ spans) from below =
 references-known : (rules : List Rule) → All (IsKnown (names rules)) (references rules)
     → All (IsKnown (names (marked_rules rules))) (references (marked_rules rules))
 references-known rules all =
-    let spans = extents_of_alternatives rules in
+    let spans = marker_extents rules in
     let markers = names (marker_rules 0 spans) in
     let both = names rules ++ markers in
     subst (λ known. All (IsKnown known) (references (marked_rules rules))) (sym (names-marked rules))
     (subst (All (IsKnown both))
-    (sym (flat_map-append (λ (rule : Rule). names_used rule.body) (mark_rules 0 rules) (marker_rules 0 spans)))
-    (All-append (IsKnown both) (references (mark_rules 0 rules)) (references (marker_rules 0 spans))
-    (rules-refer (names rules) both (alternatives_of_rules rules)
+    (sym (flat_map-append (λ (rule : Rule). names_used rule.body) (own_rules rules) (marker_rules 0 spans)))
+    (All-append (IsKnown both) (references (own_rules rules)) (references (marker_rules 0 spans))
+    (rules-refer (names rules) both (length rules) (alternatives_of_rules rules)
     (λ name there. Contains-append_left (names rules) markers name there)
-    (λ number below. Contains-append_right (names rules) markers (marker_name number)
-    (marker_names-known 0 number spans (omega arith) (omega (arith, below, length-extents_of_rules rules))))
-    0 rules (omega arith) all)
+    (λ marker below. Contains-append_right (names rules) markers (marker_name marker)
+    (marker_names-known 0 marker spans (omega arith) (omega (arith, below, length-marker_extents rules))))
+    0 (2 * alternatives_of_rules rules) rules (omega arith) (omega arith) all)
     (subst (All (IsKnown both)) (sym (references-markers 0 spans)) (All-nil (IsKnown both)))))
 
 -- ---- counts
@@ -224,17 +241,19 @@ mutual
       ap₂ ◌++◌ (append-nil (counts_written (mark (number + 1) e)) ∙ counts-mark (number + 1) e)
       (each_counts-mark (number + 1 + alternatives e) rest)
 
-rules_count : (number : ℕ) (rules : List Rule) → counts (mark_rules number rules) ≡ counts rules
-rules_count number [] = refl
-rules_count number (r ∷ rs) = ap₂ ◌++◌ (counts-mark number r.body) (rules_count (number + alternatives r.body) rs)
+rules_count : (number marker : ℕ) (rules : List Rule) → counts (mark_rules number marker rules) ≡ counts rules
+rules_count number marker [] = refl
+rules_count number marker (r ∷ rs) =
+    ap₂ ◌++◌ (append-nil (counts_written (mark number r.body)) ∙ counts-mark number r.body)
+    (rules_count (number + alternatives r.body) (marker + 1) rs)
 
 counts_in_range : (rules : List Rule) → CountsAreInRange rules → CountsAreInRange (marked_rules rules)
 counts_in_range rules all =
-    let spans = extents_of_alternatives rules in
+    let spans = marker_extents rules in
     subst (All InRange)
-    (sym (flat_map-append (λ (rule : Rule). counts_written rule.body) (mark_rules 0 rules) (marker_rules 0 spans)))
-    (All-append InRange (counts (mark_rules 0 rules)) (counts (marker_rules 0 spans))
-    (subst (All InRange) (sym (rules_count 0 rules)) all)
+    (sym (flat_map-append (λ (rule : Rule). counts_written rule.body) (own_rules rules) (marker_rules 0 spans)))
+    (All-append InRange (counts (own_rules rules)) (counts (marker_rules 0 spans))
+    (subst (All InRange) (sym (rules_count 0 (2 * alternatives_of_rules rules) rules)) all)
     (subst (All InRange) (sym (counts-markers 0 spans)) (All-nil InRange)))
 
 -- ---- grammars
@@ -243,7 +262,7 @@ not_empty : (rules : List Rule) → rules ≢ [] → marked_rules rules ≢ []
 not_empty [] some none = some refl
 not_empty (r ∷ rs) some none = cc
 
-pub IsGrammar-marked : (rules : List Rule) → IsGrammar rules → HaveNoMark rules → alternatives_of_rules rules ≤ 2 ^ 64
+pub IsGrammar-marked : (rules : List Rule) → IsGrammar rules → HaveNoMark rules → markers_of_rules rules ≤ 2 ^ 64
     → IsGrammar (marked_rules rules)
 IsGrammar-marked rules is unmarked few = record {
   some = not_empty rules is.some;

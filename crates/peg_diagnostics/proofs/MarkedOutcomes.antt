@@ -1,5 +1,5 @@
 -- The abstract outcomes of marked expressions in the marked grammar are among those of the expressions.
-use Rattle.std.proofs.Common.{◌≡◌, ℕ, zero, suc, ◌+◌, ◌<◌, ◌≤◌, Bool, true, false, List, [], ◌∷◌, All, Some}
+use Rattle.std.proofs.Common.{◌≡◌, ℕ, zero, suc, ◌+◌, ◌*◌, ◌<◌, ◌≤◌, Bool, true, false, List, [], ◌∷◌, All, Some}
 use Rattle.std.proofs.Common.{refl, sym, subst, arith}
 use Rattle.peg_bytes.specs.Extent.{Extent}
 use Rattle.peg_semantics.specs.AbstractOutcomes.{Can, CanAll, no_outcome, seq_outcome, outcome_of_items, outcome_of_choice}
@@ -11,9 +11,10 @@ use Rattle.peg_semantics.proofs.RoundsLemmas.{CanAll-refl, CanAll-trans, CanAll-
 use Rattle.peg_semantics.proofs.RoundsLemmas.{CanAll-choice_outcome, CanAll-optional_outcome, CanAll-star_outcome}
 use Rattle.peg_semantics.proofs.RoundsLemmas.{CanAll-plus_outcome, CanAll-repeat_outcome, CanAll-and_outcome}
 use Rattle.peg_semantics.proofs.RoundsLemmas.{CanAll-not_outcome, can_in-more}
+use Rattle.peg_diagnostics.specs.Attempts.{first_alternative_from}
 use Rattle.peg_diagnostics.specs.Diagnostic.{form_extent}
 use Rattle.peg_diagnostics.specs.Marked.{alternatives, alternatives_of_all, alternatives_of_each, mark, mark_all, mark_each}
-use Rattle.peg_diagnostics.specs.Marked.{marker_name, with_marker}
+use Rattle.peg_diagnostics.specs.Marked.{before_marker, marker_name, with_end, with_markers}
 use Rattle.peg_diagnostics.proofs.DiagnosticOutcomes.{known-front, known-back, known-name}
 use Rattle.peg_diagnostics.proofs.KnownNames.{IsKnown, UsesKnown, AllUseKnown}
 use Rattle.peg_diagnostics.proofs.MarkedLookups.{HasMarked, HasMarker}
@@ -58,22 +59,34 @@ CanAll-following x = record {
 }
 
 module _ (count total : ℕ) (rules other : List Rule)
-    (copied : (name : List ℕ) (m : Meaning) → meaning_of rules name ≡ Some m → HasMarked count total other name m)
+    (copied : (name : List ℕ) (m : Meaning) → meaning_of rules name ≡ Some m → HasMarked count total rules other name m)
     (closed : All (IsKnown (names rules)) (references rules))
-    (markers : (number : ℕ) → number < total → HasMarker count other number) where
+    (markers : (marker : ℕ) → marker < 2 * total + count → HasMarker count other marker) where
   -- a marker matches the empty string
-  CanAll-marker : (n number : ℕ) (span : Extent) → number < total
-      → CanAll (can_in other n (Name (marker_name number) span)) always_empty
+  CanAll-marker : (n marker : ℕ) (span : Extent) → marker < 2 * total + count
+      → CanAll (can_in other n (Name (marker_name marker) span)) always_empty
   unfolding can_in
-  CanAll-marker zero number span below = CanAll-no_outcome always_empty
-  CanAll-marker (suc zero) number span below =
-      let m = markers number below in
+  CanAll-marker zero marker span below = CanAll-no_outcome always_empty
+  CanAll-marker (suc zero) marker span below =
+      let m = markers marker below in
       subst (λ found. CanAll (outcome_of_meaning (can_in other zero) found) always_empty) (sym m.found)
       (CanAll-no_outcome always_empty)
-  CanAll-marker (suc (suc n)) number span below =
-      let m = markers number below in
+  CanAll-marker (suc (suc n)) marker span below =
+      let m = markers marker below in
       subst (λ found. CanAll (outcome_of_meaning (can_in other (suc n)) found) always_empty) (sym m.found)
       (subst (λ body. CanAll (can_in other (suc n) body) always_empty) (sym m.empty) (CanAll-refl always_empty))
+
+  -- the call of a marker follows an expression
+  before_can : (n marker : ℕ) (span : Extent) (e : Form) → marker < 2 * total + count
+      → CanAll (outcome_of_items (can_in other n) (before_marker marker span e)) (can_in other n e)
+  before_can n marker span e below =
+      let call = can_in other n (Name (marker_name marker) span) in
+      let inner = can_in other n e in
+      CanAll-trans (seq_outcome inner (seq_outcome call always_empty)) (seq_outcome inner always_empty) inner
+      (CanAll-seq_outcome inner (seq_outcome call always_empty) inner always_empty (CanAll-refl inner)
+      (CanAll-trans (seq_outcome call always_empty) call always_empty (CanAll-following call)
+      (CanAll-marker n marker span below)))
+      (CanAll-following inner)
 
   abbrev MarkedCan : ℕ → Type 0
   MarkedCan n =
@@ -83,23 +96,39 @@ module _ (count total : ℕ) (rules other : List Rule)
   abbrev AlternativeCan : ℕ → Type 0
   AlternativeCan n =
       (e : Form) (number : ℕ) → UsesKnown (names rules) e → number + 1 + alternatives e ≤ total
-      → CanAll (can_in other n (with_marker number (form_extent e) (mark (number + 1) e))) (can_in rules n e)
+      → CanAll (can_in other n (with_markers number (form_extent e) (mark (number + 1) e))) (can_in rules n e)
 
-  -- an alternative after its marker
+  -- an alternative between its markers
   alternative_can : (n : ℕ) → MarkedCan n → AlternativeCan (suc n)
   unfolding can_in
   alternative_can n h e number known within =
-      let marker = can_in other n (Name (marker_name number) (form_extent e)) in
+      let call = can_in other n (Name (marker_name (2 * number)) (form_extent e)) in
       let inner = can_in other n (mark (number + 1) e) in
-      CanAll-trans (seq_outcome marker (seq_outcome inner always_empty)) (seq_outcome always_empty inner)
-      (can_in rules (suc n) e)
-      (CanAll-seq_outcome marker (seq_outcome inner always_empty) always_empty inner
-      (CanAll-marker n number (form_extent e) (omega (arith, within))) (CanAll-following inner))
+      let items = outcome_of_items (can_in other n)
+      (before_marker (2 * number + 1) (form_extent e) (mark (number + 1) e)) in
+      CanAll-trans (seq_outcome call items) (seq_outcome always_empty inner) (can_in rules (suc n) e)
+      (CanAll-seq_outcome call items always_empty inner
+      (CanAll-marker n (2 * number) (form_extent e) (omega (arith, within)))
+      (before_can n (2 * number + 1) (form_extent e) (mark (number + 1) e) (omega (arith, within))))
       (CanAll-trans (seq_outcome always_empty inner) inner (can_in rules (suc n) e) (CanAll-before inner)
       (CanAll-trans inner (can_in rules n e) (can_in rules (suc n) e) (h e (number + 1) known (omega (arith, within)))
       (can_in-more rules n e)))
 
-  module _ (n : ℕ) (h : MarkedCan n) (g : AlternativeCan n) where
+  abbrev RuleCan : ℕ → Type 0
+  RuleCan n =
+      (e : Form) (number marker : ℕ) (span : Extent) → UsesKnown (names rules) e → number + alternatives e ≤ total
+      → marker < 2 * total + count → CanAll (can_in other n (with_end marker span (mark number e))) (can_in rules n e)
+
+  -- the expression of a rule before its marker
+  rule_can : (n : ℕ) → MarkedCan n → RuleCan (suc n)
+  unfolding can_in
+  rule_can n h e number marker span known within below =
+      let inner = can_in other n (mark number e) in
+      CanAll-trans (outcome_of_items (can_in other n) (before_marker marker span (mark number e))) inner
+      (can_in rules (suc n) e) (before_can n marker span (mark number e) below)
+      (CanAll-trans inner (can_in rules n e) (can_in rules (suc n) e) (h e number known within) (can_in-more rules n e))
+
+  module _ (n : ℕ) (h : MarkedCan n) (g : AlternativeCan n) (k : RuleCan n) where
     abbrev judge : OutcomeOf
     judge = can_in rules n
 
@@ -116,17 +145,21 @@ module _ (count total : ℕ) (rules other : List Rule)
 
     choice-can : (e : Form) (rest : Forms) (number : ℕ) → UsesKnown (names rules) e → AllUseKnown (names rules) rest
         → number + (1 + alternatives e + alternatives_of_each rest) ≤ total
-        → CanAll (outcome_of_choice marked (with_marker number (form_extent e) (mark (number + 1) e))
+        → CanAll (outcome_of_choice marked (with_markers number (form_extent e) (mark (number + 1) e))
         (mark_each (number + 1 + alternatives e) rest)) (outcome_of_choice judge e rest)
     choice-can e End number known also within = g e number known (omega (arith, within))
     choice-can e (Then next rest) number known also within =
         let later = number + 1 + alternatives e in
-        CanAll-choice_outcome (marked (with_marker number (form_extent e) (mark (number + 1) e)))
-        (outcome_of_choice marked (with_marker later (form_extent next) (mark (later + 1) next))
+        CanAll-choice_outcome (marked (with_markers number (form_extent e) (mark (number + 1) e)))
+        (outcome_of_choice marked (with_markers later (form_extent next) (mark (later + 1) next))
         (mark_each (later + 1 + alternatives next) rest))
         (judge e) (outcome_of_choice judge next rest) (g e number known (omega (arith, within)))
         (choice-can next rest later (known-front rules closed next rest also) (known-back rules closed next rest also)
         (omega (arith, within)))
+
+    -- the marker of a rule is one of the markers
+    marker_within : {name : List ℕ} {m : Meaning} → (c : HasMarked count total rules other name m) → c.marker < 2 * total + count
+    marker_within c = omega (arith, c.ends, c.below)
 
     name-can : (name : List ℕ) (span : Extent) → UsesKnown (names rules) (Name name span)
         → CanAll (outcome_of_meaning marked (meaning_of other name)) (outcome_of_meaning judge (meaning_of rules name))
@@ -137,7 +170,7 @@ module _ (count total : ℕ) (rules other : List Rule)
         (sym means.1)
         (subst (λ o. CanAll (outcome_of_meaning marked o) (judge (means.0).body)) (sym c.found)
         (subst (λ body. CanAll (marked body) (judge (means.0).body)) (sym c.is_marked)
-        (h (means.0).body c.number means.2 c.within)))
+        (k (means.0).body (first_alternative_from 0 rules name) c.marker c.span means.2 c.within (marker_within c))))
 
     table-can : (e : Form) (number : ℕ) → UsesKnown (names rules) e → number + alternatives e ≤ total
         → CanAll (can_table other marked (mark number e)) (can_table rules judge e)
@@ -167,14 +200,19 @@ module _ (count total : ℕ) (rules other : List Rule)
   unfolding can_in
   alternative_none e number known within = CanAll-refl no_outcome
 
-  both-can : (n : ℕ) → MarkedCan n × AlternativeCan n
+  rule_none : RuleCan zero
   unfolding can_in
-  both-can zero = (λ e number known within. CanAll-refl no_outcome, alternative_none)
-  both-can (suc n) = let before = both-can n in (
-    λ e number known within. table-can n before.0 before.1 e number known within,
+  rule_none e number marker span known within below = CanAll-refl no_outcome
+
+  each-can : (n : ℕ) → MarkedCan n × AlternativeCan n × RuleCan n
+  unfolding can_in
+  each-can zero = (λ e number known within. CanAll-refl no_outcome, alternative_none, rule_none)
+  each-can (suc n) = let before = each-can n in (
+    λ e number known within. table-can n before.0 before.1 before.2 e number known within,
     alternative_can n before.0,
+    rule_can n before.0,
   )
 
   pub GivesNothing-mark : (e : Form) (number : ℕ) → UsesKnown (names rules) e → number + alternatives e ≤ total
       → GivesNothing other (mark number e) → GivesNothing rules e
-  GivesNothing-mark e number known within gives = (gives.0, ((both-can gives.0).0 e number known within).nothing gives.1)
+  GivesNothing-mark e number known within gives = (gives.0, ((each-can gives.0).0 e number known within).nothing gives.1)

@@ -1,5 +1,5 @@
 -- The marked grammar of a well-formed grammar is well-formed.
-use Rattle.std.proofs.Common.{◌≡◌, ℕ, zero, suc, ◌+◌, ◌^◌, ◌<◌, ◌≤◌, List, [], ◌∷◌, ◌++◌, All, length}
+use Rattle.std.proofs.Common.{◌≡◌, ℕ, zero, suc, ◌+◌, ◌*◌, ◌^◌, ◌<◌, ◌≤◌, List, [], ◌∷◌, ◌++◌, All, length}
 use Rattle.std.proofs.Common.{Some, sym, subst, arith}
 use Rattle.std.proofs.lemmas.List.Elements.{All-nil, All-cons, All-head, All-tail, All-append}
 use Rattle.peg_bytes.specs.Extent.{Extent}
@@ -11,10 +11,11 @@ use Rattle.peg_semantics.specs.WellFormed.{FormPredicate, ItemsAre, AllAre, Mean
 use Rattle.peg_semantics.specs.WellFormed.{IsWellFormedIn, IsWellFormed, below, below_all, subexpressions}
 use Rattle.peg_semantics.specs.WellFormed.{IsWellFormedGrammar}
 use Rattle.peg_semantics.proofs.RoundsLemmas.{IsWellFormedIn-more}
+use Rattle.peg_diagnostics.specs.Attempts.{first_alternative_from}
 use Rattle.peg_diagnostics.specs.Diagnostic.{form_extent}
 use Rattle.peg_diagnostics.specs.Marked.{alternatives, alternatives_of_all, alternatives_of_each, alternatives_of_rules}
-use Rattle.peg_diagnostics.specs.Marked.{extents_of_alternatives, mark, mark_all, mark_each, mark_rules, marked_rules}
-use Rattle.peg_diagnostics.specs.Marked.{marker_name, marker_rules, with_body, with_marker}
+use Rattle.peg_diagnostics.specs.Marked.{before_marker, mark, mark_all, mark_each, mark_rules, marked_rules}
+use Rattle.peg_diagnostics.specs.Marked.{marker_extents, marker_name, marker_rules, markers_of_rules, with_body, with_end, with_markers}
 use Rattle.peg_diagnostics.proofs.DiagnosticOutcomes.{known-front, known-back, known-name}
 use Rattle.peg_diagnostics.proofs.KnownNames.{All-front, All-back, IsKnown, UsesKnown, AllUseKnown}
 use Rattle.peg_diagnostics.proofs.Lookups.{Distinct}
@@ -23,9 +24,9 @@ use Rattle.peg_diagnostics.proofs.MarkedOutcomes.{GivesNothing-mark}
 use Rattle.peg_diagnostics.proofs.MarkedRecords.{thrice}
 
 module _ (count total : ℕ) (rules other : List Rule)
-    (copied : (name : List ℕ) (m : Meaning) → meaning_of rules name ≡ Some m → HasMarked count total other name m)
+    (copied : (name : List ℕ) (m : Meaning) → meaning_of rules name ≡ Some m → HasMarked count total rules other name m)
     (closed : All (IsKnown (names rules)) (references rules))
-    (markers : (number : ℕ) → number < total → HasMarker count other number) where
+    (markers : (marker : ℕ) → marker < 2 * total + count → HasMarker count other marker) where
   -- the names that an expression refers to are defined
   abbrev Uses : Form → Type 0
   Uses e = UsesKnown (names rules) e
@@ -47,23 +48,39 @@ module _ (count total : ℕ) (rules other : List Rule)
   -- ---- expressions
 
   -- a marker is well-formed
-  marker_is : (n number : ℕ) (span : Extent) → number < total
-      → IsWellFormedIn other (suc (suc n)) (Name (marker_name number) span)
+  marker_is : (n marker : ℕ) (span : Extent) → marker < 2 * total + count
+      → IsWellFormedIn other (suc (suc n)) (Name (marker_name marker) span)
   unfolding IsWellFormedIn
-  marker_is n number span below =
-      let m = markers number below in
+  marker_is n marker span below =
+      let m = markers marker below in
       subst (MeaningIs (IsWellFormedIn other (suc n))) (sym m.found)
       (subst (IsWellFormedIn other (suc n)) (sym m.empty) tt)
 
-  with_marker_is : (n number : ℕ) (span : Extent) (e : Form) → number < total → IsWellFormedIn other (suc (suc n)) e
-      → IsWellFormedIn other (suc (suc (suc n))) (with_marker number span e)
+  -- an expression before a marker
+  before_marker_is : (n marker : ℕ) (span : Extent) (e : Form) → marker < 2 * total + count
+      → IsWellFormedIn other (suc (suc n)) e
+      → ItemsAre other (IsWellFormedIn other (suc (suc n))) (before_marker marker span e)
+  before_marker_is n marker span e below is = (is, λ gives. (marker_is n marker span below, λ gives_too. tt))
+
+  with_end_is : (n marker : ℕ) (span : Extent) (e : Form) → marker < 2 * total + count
+      → IsWellFormedIn other (suc (suc n)) e → IsWellFormedIn other (suc (suc (suc n))) (with_end marker span e)
   unfolding IsWellFormedIn
-  with_marker_is n number span e below is = (marker_is n number span below, λ gives. (is, λ gives_too. tt))
+  with_end_is n marker span e below is = before_marker_is n marker span e below is
+
+  with_markers_is : (n number : ℕ) (span : Extent) (e : Form) → number < total → IsWellFormedIn other (suc (suc n)) e
+      → IsWellFormedIn other (suc (suc (suc n))) (with_markers number span e)
+  unfolding IsWellFormedIn
+  with_markers_is n number span e below is = (
+    marker_is n (2 * number) span (omega (arith, below)),
+    λ gives. before_marker_is n (2 * number + 1) span e (omega (arith, below)) is,
+  )
 
   module _ (Is Other : FormPredicate)
       (same : (e : Form) (number : ℕ) → Uses e → number + alternatives e ≤ total → Is e → Other (mark number e))
       (after : (e : Form) (number : ℕ) → Uses e → number + 1 + alternatives e ≤ total → Is e
-      → Other (with_marker number (form_extent e) (mark (number + 1) e))) where
+      → Other (with_markers number (form_extent e) (mark (number + 1) e)))
+      (ended : (e : Form) (number marker : ℕ) (span : Extent) → Uses e → number + alternatives e ≤ total
+      → marker < 2 * total + count → Is e → Other (with_end marker span (mark number e))) where
     items-are : (items : Forms) (number : ℕ) → UsesAll items → number + alternatives_of_all items ≤ total
         → ItemsAre rules Is items → ItemsAre other Other (mark_all number items)
     items-are End number known within are = tt
@@ -87,7 +104,8 @@ module _ (count total : ℕ) (rules other : List Rule)
         let means = known-name rules closed name span known in
         let c = copied name means.0 means.1 in
         subst (MeaningIs Other) (sym c.found) (subst Other (sym c.is_marked)
-        (same (means.0).body c.number means.2 c.within (subst (MeaningIs Is) means.1 is)))
+        (ended (means.0).body (first_alternative_from 0 rules name) c.marker c.span means.2 c.within
+        (omega (arith, c.ends, c.below)) (subst (MeaningIs Is) means.1 is)))
 
     repeats : (part : Form) (number : ℕ) → Uses part → number + alternatives part ≤ total → RepeatsWell rules Is part
         → RepeatsWell other Other (mark number part)
@@ -121,8 +139,10 @@ module _ (count total : ℕ) (rules other : List Rule)
       table-is (IsWellFormedIn rules n) (IsWellFormedIn other (suc (suc (suc (thrice n)))))
       (λ part k uses fits fine. IsWellFormedIn-more other (suc (suc (thrice n))) (mark k part)
       (IsWellFormedIn-more other (suc (thrice n)) (mark k part) (here part k uses fits fine)))
-      (λ part k uses fits fine. with_marker_is (thrice n) k (form_extent part) (mark (k + 1) part) (omega (arith, fits))
+      (λ part k uses fits fine. with_markers_is (thrice n) k (form_extent part) (mark (k + 1) part) (omega (arith, fits))
       (IsWellFormedIn-more other (suc (thrice n)) (mark (k + 1) part) (here part (k + 1) uses (omega (arith, fits)) fine)))
+      (λ part k marker span uses fits below fine. with_end_is (thrice n) marker span (mark k part) below
+      (IsWellFormedIn-more other (suc (thrice n)) (mark k part) (here part k uses fits fine)))
       e number known within is
 
   marked_is : (e : Form) (number : ℕ) → Uses e → number + alternatives e ≤ total → IsWellFormed rules e
@@ -131,12 +151,22 @@ module _ (count total : ℕ) (rules other : List Rule)
 
   -- an alternative with its marker
   after_is : (e : Form) (number : ℕ) → Uses e → number + 1 + alternatives e ≤ total → IsWellFormed rules e
-      → IsWellFormed other (with_marker number (form_extent e) (mark (number + 1) e))
+      → IsWellFormed other (with_markers number (form_extent e) (mark (number + 1) e))
   after_is e number known within is = (
     suc (suc (suc (thrice is.0))),
-    with_marker_is (thrice is.0) number (form_extent e) (mark (number + 1) e) (omega (arith, within))
+    with_markers_is (thrice is.0) number (form_extent e) (mark (number + 1) e) (omega (arith, within))
         (IsWellFormedIn-more other (suc (thrice is.0)) (mark (number + 1) e)
         (IsWellFormedIn-mark is.0 e (number + 1) known (omega (arith, within)) is.1)),
+  )
+
+  -- the expression of a rule with its marker
+  rule_is : (e : Form) (number marker : ℕ) (span : Extent) → Uses e → number + alternatives e ≤ total
+      → marker < 2 * total + count → IsWellFormed rules e → IsWellFormed other (with_end marker span (mark number e))
+  rule_is e number marker span known within below is = (
+    suc (suc (suc (thrice is.0))),
+    with_end_is (thrice is.0) marker span (mark number e) below
+        (IsWellFormedIn-more other (suc (thrice is.0)) (mark number e)
+        (IsWellFormedIn-mark is.0 e number known within is.1)),
   )
 
   -- ---- subexpressions
@@ -151,18 +181,38 @@ module _ (count total : ℕ) (rules other : List Rule)
       All-cons Fine (mark number e) (below (mark number e))
       (marked_is e number known within (All-head (IsWellFormed rules) e (below e) all)) parts
 
-  -- an alternative: the sequence, the marker's name, and the marked alternative
+  -- a marked expression, and after it the call of a marker
+  whole_before : (e : Form) (number marker : ℕ) (span : Extent) → Uses e → number + alternatives e ≤ total
+      → marker < 2 * total + count → All (IsWellFormed rules) (subexpressions e) → All Fine (below (mark number e))
+      → All Fine (below_all (before_marker marker span (mark number e)))
+  whole_before e number marker span known within fits all parts =
+      let call = Name (marker_name marker) span in
+      All-append Fine (subexpressions (mark number e)) (call ∷ []) (whole e number known within all parts)
+      (All-cons Fine call [] (suc (suc zero), marker_is zero marker span fits) (All-nil Fine))
+
+  -- an alternative: the sequence, the name of its first marker, the marked alternative and the name of its last marker
   whole_alternative : (e : Form) (number : ℕ) → Uses e → number + 1 + alternatives e ≤ total
       → All (IsWellFormed rules) (subexpressions e) → All Fine (below (mark (number + 1) e))
-      → All Fine (subexpressions (with_marker number (form_extent e) (mark (number + 1) e)))
+      → All Fine (subexpressions (with_markers number (form_extent e) (mark (number + 1) e)))
   whole_alternative e number known within all parts =
-      let call = Name (marker_name number) (form_extent e) in
+      let call = Name (marker_name (2 * number)) (form_extent e) in
       let inner = mark (number + 1) e in
-      All-cons Fine (with_marker number (form_extent e) inner) (call ∷ (inner ∷ (below inner ++ [])))
+      let items = below_all (before_marker (2 * number + 1) (form_extent e) inner) in
+      All-cons Fine (with_markers number (form_extent e) inner) (call ∷ items)
       (after_is e number known within (All-head (IsWellFormed rules) e (below e) all))
-      (All-cons Fine call (inner ∷ (below inner ++ []))
-      (suc (suc zero), marker_is zero number (form_extent e) (omega (arith, within)))
-      (All-append Fine (subexpressions inner) [] (whole e (number + 1) known (omega (arith, within)) all parts) (All-nil Fine)))
+      (All-cons Fine call items
+      (suc (suc zero), marker_is zero (2 * number) (form_extent e) (omega (arith, within)))
+      (whole_before e (number + 1) (2 * number + 1) (form_extent e) known (omega (arith, within)) (omega (arith, within))
+      all parts))
+
+  -- the expression of a rule: the sequence, the marked expression and the name of the marker
+  whole_rule : (e : Form) (number marker : ℕ) (span : Extent) → Uses e → number + alternatives e ≤ total
+      → marker < 2 * total + count → All (IsWellFormed rules) (subexpressions e) → All Fine (below (mark number e))
+      → All Fine (subexpressions (with_end marker span (mark number e)))
+  whole_rule e number marker span known within fits all parts =
+      All-cons Fine (with_end marker span (mark number e)) (below_all (before_marker marker span (mark number e)))
+      (rule_is e number marker span known within fits (All-head (IsWellFormed rules) e (below e) all))
+      (whole_before e number marker span known within fits all parts)
 
   mutual
     parts_are : (e : Form) (number : ℕ) → Uses e → number + alternatives e ≤ total
@@ -177,7 +227,7 @@ module _ (count total : ℕ) (rules other : List Rule)
         let parts = All-tail (IsWellFormed rules) (Choice first rest span) (below_all (Then first rest)) all in
         let here = All-front (IsWellFormed rules) (subexpressions first) (below_all rest) parts in
         let later = number + 1 + alternatives first in
-        All-append Fine (subexpressions (with_marker number (form_extent first) (mark (number + 1) first)))
+        All-append Fine (subexpressions (with_markers number (form_extent first) (mark (number + 1) first)))
         (below_all (mark_each later rest))
         (whole_alternative first number (front first rest known) (omega (arith, within)) here
         (parts_are first (number + 1) (front first rest known) (omega (arith, within)) here))
@@ -220,7 +270,7 @@ module _ (count total : ℕ) (rules other : List Rule)
     each_part (Then e rest) number known within all =
         let here = All-front (IsWellFormed rules) (subexpressions e) (below_all rest) all in
         let later = number + 1 + alternatives e in
-        All-append Fine (subexpressions (with_marker number (form_extent e) (mark (number + 1) e)))
+        All-append Fine (subexpressions (with_markers number (form_extent e) (mark (number + 1) e)))
         (below_all (mark_each later rest))
         (whole_alternative e number (front e rest known) (omega (arith, within)) here
         (parts_are e (number + 1) (front e rest known) (omega (arith, within)) here))
@@ -232,17 +282,20 @@ module _ (count total : ℕ) (rules other : List Rule)
   abbrev RuleIs : List Rule → Rule → Type 0
   RuleIs among rule = All (IsWellFormed among) (subexpressions rule.body)
 
-  rules_are : (some : List Rule) (number : ℕ) → All (IsKnown (names rules)) (references some) → number + alternatives_of_rules some ≤ total → All (RuleIs rules) some
-      → All (RuleIs other) (mark_rules number some)
-  rules_are [] number known within all = All-nil (RuleIs other)
-  rules_are (r ∷ rs) number known within all =
+  rules_are : (some : List Rule) (number marker : ℕ) → All (IsKnown (names rules)) (references some)
+      → number + alternatives_of_rules some ≤ total → marker + length some ≤ 2 * total + count
+      → All (RuleIs rules) some → All (RuleIs other) (mark_rules number marker some)
+  rules_are [] number marker known within fits all = All-nil (RuleIs other)
+  rules_are (r ∷ rs) number marker known within fits all =
       let here = All-head (RuleIs rules) r rs all in
       let uses = All-front (IsKnown (names rules)) (names_used r.body) (references rs) known in
-      All-cons (RuleIs other) (with_body r (mark number r.body)) (mark_rules (number + alternatives r.body) rs)
-      (whole r.body number uses (omega (arith, within)) here (parts_are r.body number uses (omega (arith, within)) here))
-      (rules_are rs (number + alternatives r.body)
+      All-cons (RuleIs other) (with_body r (with_end marker r.span (mark number r.body)))
+      (mark_rules (number + alternatives r.body) (marker + 1) rs)
+      (whole_rule r.body number marker r.span uses (omega (arith, within)) (omega (arith, fits)) here
+      (parts_are r.body number uses (omega (arith, within)) here))
+      (rules_are rs (number + alternatives r.body) (marker + 1)
       (All-back (IsKnown (names rules)) (names_used r.body) (references rs) known) (omega (arith, within))
-      (All-tail (RuleIs rules) r rs all))
+      (omega (arith, fits)) (All-tail (RuleIs rules) r rs all))
 
   empty_is : (span : Extent) → IsWellFormed other (Seq End span)
   unfolding IsWellFormedIn
@@ -257,14 +310,14 @@ module _ (count total : ℕ) (rules other : List Rule)
 
 -- the marked grammar of a well-formed grammar
 pub well_formed-marked : (rules : List Rule) → All (IsKnown (names rules)) (references rules)
-    → Distinct (names (marked_rules rules)) → alternatives_of_rules rules ≤ 2 ^ 64 → IsWellFormedGrammar rules
+    → Distinct (names (marked_rules rules)) → markers_of_rules rules ≤ 2 ^ 64 → IsWellFormedGrammar rules
     → IsWellFormedGrammar (marked_rules rules)
 well_formed-marked rules closed distinct few is =
     let total = alternatives_of_rules rules in
-    let spans = extents_of_alternatives rules in
+    let spans = marker_extents rules in
     All-append (λ (rule : Rule). All (IsWellFormed (marked_rules rules)) (subexpressions rule.body))
-    (mark_rules 0 rules) (marker_rules 0 spans)
+    (mark_rules 0 (2 * total) rules) (marker_rules 0 spans)
     (rules_are (length rules) total rules (marked_rules rules) (has_marked rules) closed
-    (has_marker rules distinct few) rules 0 closed (omega arith) is)
+    (has_marker rules distinct few) rules 0 (2 * total) closed (omega arith) (omega arith) is)
     (markers_are (length rules) total rules (marked_rules rules) (has_marked rules) closed
     (has_marker rules distinct few) 0 spans)

@@ -2,10 +2,7 @@
 use Rattle.std.proofs.Common.{◌≡◌, ◌⊎◌, inl, inr, ℕ, ap, sym, ◌∙◌}
 use Rattle.std.specs.declared.alloc.Global.{Global}
 use Rattle.std.specs.declared.boxed.Box.{Box}
-use Rattle.peg_bytes.specs.Extent.{extent}
 use Rattle.peg_bytes.specs.declared.span.Span.{Span}
-use Rattle.peg_semantics.specs.Form as form
-use Rattle.peg_semantics.specs.Form.{Form}
 use Rattle.peg_grammar.proofs.WrittenForms.{form_of-Optional, form_of-Star, form_of-Plus, form_of-Counted, form_of-And, form_of-Not}
 use Rattle.peg_grammar.specs.Written.{form_of}
 use Rattle.peg_grammar.specs.declared.expr.Expr.{Expr}

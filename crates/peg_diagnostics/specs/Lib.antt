@@ -2,6 +2,7 @@ pub use Rattle.peg_semantics.specs.Form
 pub use Rattle.peg_semantics.specs.Record
 pub use Rattle.peg_semantics.specs.Rules
 pub use Rattle.peg_semantics.specs.WellFormed
+pub mod Attempts
 pub mod Blame
 pub mod BlameExamples
 pub mod Diagnosis

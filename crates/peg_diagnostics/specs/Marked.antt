@@ -1,7 +1,8 @@
--- The marked grammar of rules. Each alternative of a choice begins with a call of a rule of its own, its marker, which
--- matches the empty string. So an alternative that matches leaves a node of its marker. Results and spans of other
--- nodes stay the same.
-use Rattle.std.specs.Prelude.{ℕ, ◌+◌, List, [], ◌∷◌, ◌++◌, if◌then◌else◌, nat_lt}
+-- The marked grammar of rules. A marker is a rule of its own, which matches the empty string. Each alternative of a
+-- choice is between calls of two markers, and the expression of each rule is before the call of one. So calls of
+-- markers show which alternatives are tried, and which alternatives and rules match. Results and spans of other nodes
+-- stay the same.
+use Rattle.std.specs.Prelude.{ℕ, ◌+◌, ◌*◌, List, [], ◌∷◌, ◌++◌, if◌then◌else◌, length, map, nat_lt}
 use Rattle.std.specs.Fmt.{decimal}
 use Rattle.peg_bytes.specs.Extent.{Extent}
 use Rattle.peg_tree.specs.Trees.{Trees, NoTrees, Tree}
@@ -62,13 +63,21 @@ abbrev mutual
   alternative_extents_of_each (Then e rest) =
       form_extent e ∷ (alternative_extents e ++ alternative_extents_of_each rest)
 
--- the name of the marker of an alternative: `!`, which no identifier contains, and its number
-abbrev pub marker_name : (number : ℕ) → List ℕ
-marker_name number = 33 ∷ decimal number
+-- the name of a marker: `!`, which no identifier contains, and its number
+abbrev pub marker_name : (marker : ℕ) → List ℕ
+marker_name marker = 33 ∷ decimal marker
 
--- an alternative after the call of its marker
-abbrev pub with_marker : (number : ℕ) → (span : Extent) → Form → Form
-with_marker number span e = Seq (Then (Name (marker_name number) span) (Then e End)) span
+-- an expression and then the call of a marker
+abbrev pub before_marker : (marker : ℕ) → (span : Extent) → Form → Forms
+before_marker marker span e = Then e (Then (Name (marker_name marker) span) End)
+
+abbrev pub with_end : (marker : ℕ) → (span : Extent) → Form → Form
+with_end marker span e = Seq (before_marker marker span e) span
+
+-- an alternative between the calls of its markers: the one with twice its number, and the next one
+abbrev pub with_markers : (number : ℕ) → (span : Extent) → Form → Form
+with_markers number span e =
+    Seq (Then (Name (marker_name (2 * number)) span) (before_marker (2 * number + 1) span e)) span
 
 -- An expression whose alternatives are marked, in written order, with the numbers from one on.
 abbrev mutual
@@ -79,7 +88,7 @@ abbrev mutual
   mark number (Name name span) = Name name span
   mark number (Seq items span) = Seq (mark_all number items) span
   mark number (Choice first rest span) =
-      Choice (with_marker number (form_extent first) (mark (number + 1) first))
+      Choice (with_markers number (form_extent first) (mark (number + 1) first))
       (mark_each (number + 1 + alternatives first) rest) span
   mark number (Optional part span) = Optional (mark number part) span
   mark number (Star part span) = Star (mark number part) span
@@ -95,17 +104,18 @@ abbrev mutual
   pub mark_each : (number : ℕ) → Forms → Forms
   mark_each number End = End
   mark_each number (Then e rest) =
-      Then (with_marker number (form_extent e) (mark (number + 1) e)) (mark_each (number + 1 + alternatives e) rest)
+      Then (with_markers number (form_extent e) (mark (number + 1) e)) (mark_each (number + 1 + alternatives e) rest)
 
 -- a rule with another expression
 abbrev pub with_body : Rule → Form → Rule
 with_body rule body = record { name = rule.name; span = rule.span; body = body }
 
--- rules whose alternatives are marked with the numbers from one on
-abbrev pub mark_rules : (number : ℕ) → List Rule → List Rule
-mark_rules number [] = []
-mark_rules number (rule ∷ more) =
-    with_body rule (mark number rule.body) ∷ mark_rules (number + alternatives rule.body) more
+-- Rules whose alternatives are marked with the numbers from one on. Each ends with the call of a marker, from one on.
+abbrev pub mark_rules : (number marker : ℕ) → List Rule → List Rule
+mark_rules number marker [] = []
+mark_rules number marker (rule ∷ more) =
+    with_body rule (with_end marker rule.span (mark number rule.body))
+    ∷ mark_rules (number + alternatives rule.body) (marker + 1) more
 
 -- the number of all alternatives of rules
 abbrev pub alternatives_of_rules : List Rule → ℕ
@@ -117,18 +127,32 @@ abbrev pub extents_of_alternatives : List Rule → List Extent
 extents_of_alternatives [] = []
 extents_of_alternatives (rule ∷ more) = alternative_extents rule.body ++ extents_of_alternatives more
 
--- the marker of an alternative with this extent; it matches the empty string
-abbrev pub marker_rule : (number : ℕ) → Extent → Rule
-marker_rule number span = record { name = marker_name number; span = span; body = Seq End span }
+-- a marker with this extent; it matches the empty string
+abbrev pub marker_rule : (marker : ℕ) → Extent → Rule
+marker_rule marker span = record { name = marker_name marker; span = span; body = Seq End span }
 
--- the markers with the numbers from one on, of alternatives with these extents
-abbrev pub marker_rules : (number : ℕ) → List Extent → List Rule
-marker_rules number [] = []
-marker_rules number (span ∷ more) = marker_rule number span ∷ marker_rules (number + 1) more
+-- the markers with the numbers from one on, with these extents
+abbrev pub marker_rules : (marker : ℕ) → List Extent → List Rule
+marker_rules marker [] = []
+marker_rules marker (span ∷ more) = marker_rule marker span ∷ marker_rules (marker + 1) more
 
--- The marked rules in their order, and then the markers. So alternative k has the rule number `length rules + k`.
+-- each extent two times
+abbrev pub doubled : List Extent → List Extent
+doubled [] = []
+doubled (span ∷ more) = span ∷ span ∷ doubled more
+
+-- the extents of the markers: two for each alternative, and then one for each rule
+abbrev pub marker_extents : List Rule → List Extent
+marker_extents rules = doubled (extents_of_alternatives rules) ++ map (λ (rule : Rule). rule.span) rules
+
+-- the number of the markers
+abbrev pub markers_of_rules : List Rule → ℕ
+markers_of_rules rules = 2 * alternatives_of_rules rules + length rules
+
+-- The marked rules in their order, and then the markers. So marker k has the rule number `length rules + k`.
 abbrev pub marked_rules : List Rule → List Rule
-marked_rules rules = mark_rules 0 rules ++ marker_rules 0 (extents_of_alternatives rules)
+marked_rules rules =
+    mark_rules 0 (2 * alternatives_of_rules rules) rules ++ marker_rules 0 (marker_extents rules)
 
 -- the trees without the nodes of rules with this number or a greater one
 abbrev pub unmarked : (count : ℕ) → Trees → Trees

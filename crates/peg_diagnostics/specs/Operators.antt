@@ -1,5 +1,4 @@
 -- Describes code: the operators on one expression, as the functions that copy expressions build them.
-use Rattle.std.specs.Prelude.{◌≡◌}
 use Rattle.peg_semantics.specs.Form.{Form, Literal, Class, Any, Name, Seq, Choice, Optional, Star, Plus, Counted, And, Not}
 
 -- an operator on another part; what is no operator is the part itself

@@ -1,5 +1,6 @@
 //! Grammars made from a grammar. The failed tests of its diagnostic grammar show the furthest failure outside
-//! predicates. The trees of its marked grammar show which alternatives have matched.
+//! predicates. The calls of its marked grammar show which alternatives are tried, and which alternatives and rules
+//! match.
 #![tactic(auto)]
 
 mod alternatives;

@@ -70,18 +70,6 @@ outcome-line (Ok line) file rules outcome len all status is ends same =
     (inr (λ nested. absurd (let bad : Rows ≡ Nested = nested in cc), refl))
 outcome-line (Err why) file rules outcome len all status is ends same = tt
 
--- an outcome has the same exit status, whichever nodes are shown
-pub selected-status : (rules : List Rule) (len : ℕ) (all : Bool) (shown : ℕ → Bool) (outcome : Outcome)
-    → status_of (outcome_reply rules outcome len all Rows) ≡ status_of (outcome_reply rules (selected_outcome shown outcome) len all Rows)
-selected-status rules len all shown outcome = by outcome.result
-  where
-    by : (result : Parsed)
-        → status_of (result_reply rules len all Rows outcome.far (extents_at rules outcome.expected.items) result)
-        ≡ status_of (result_reply rules len all Rows outcome.far (extents_at rules outcome.expected.items)
-        (selected_result shown result))
-    by parsed.Failed = refl
-    by (parsed.Matched end tree) = refl
-
 -- ---- results without a printed tree
 
 -- the line of a result is the same whichever nodes are shown
@@ -100,27 +88,31 @@ unprinted-status : (rules : List Rule) (len : ℕ) (all : Bool) (shown : ℕ →
 unprinted-status rules len all shown far expected parsed.Failed = refl
 unprinted-status rules len all shown far expected (parsed.Matched end tree) = refl
 
--- the line of an outcome without a printed tree is that of the outcome with the nodes that are shown
+-- the line of an outcome without a printed tree is the same, whichever nodes are shown
 pub unprinted-line : (result : Result Line AllocError) (file : List ℕ) (rules : List Rule) (outcome : Outcome) (len : ℕ)
-    (all : Bool) (shown : ℕ → Bool)
-    → IfOk result (λ line. IsLineOf file (PrintsOutcome rules outcome len all NoTree) (line_bytes line) (status_code line.status))
-    → IfOk result (λ line. IsLineOf file (PrintsOutcome rules (selected_outcome shown outcome) len all NoTree)
+    (all : Bool) (first second : ℕ → Bool)
+    → IfOk result (λ line. IsLineOf file (PrintsOutcome rules (selected_outcome first outcome) len all NoTree)
     (line_bytes line) (status_code line.status))
-unprinted-line (Err why) file rules outcome len all shown is = tt
-unprinted-line (Ok line) file rules outcome len all shown is = by is.0 is.1 is.2 is.3
+    → IfOk result (λ line. IsLineOf file (PrintsOutcome rules (selected_outcome second outcome) len all NoTree)
+    (line_bytes line) (status_code line.status))
+unprinted-line (Err why) file rules outcome len all first second is = tt
+unprinted-line (Ok line) file rules outcome len all first second is = by is.0 is.1 is.2 is.3
   where
-    by : (reply : Reply) → PrintsOutcome rules outcome len all NoTree reply → line_bytes line ≡ printed_line file reply
-        → status_code line.status ≡ status_of reply
-        → IsLineOf file (PrintsOutcome rules (selected_outcome shown outcome) len all NoTree) (line_bytes line)
+    by : (reply : Reply) → PrintsOutcome rules (selected_outcome first outcome) len all NoTree reply
+        → line_bytes line ≡ printed_line file reply → status_code line.status ≡ status_of reply
+        → IsLineOf file (PrintsOutcome rules (selected_outcome second outcome) len all NoTree) (line_bytes line)
         (status_code line.status)
     by reply (inl deep) prints ends = absurd (let bad : NoTree ≡ Nested = deep.0 in cc)
     by reply (inr shallow) prints ends =
         let spans = extents_at rules outcome.expected.items in (
-          outcome_reply rules (selected_outcome shown outcome) len all NoTree,
+          outcome_reply rules (selected_outcome second outcome) len all NoTree,
           inr (λ nested. absurd (let bad : NoTree ≡ Nested = nested in cc), refl),
           prints ∙ ap (printed_line file) shallow.1
-              ∙ unprinted-text file rules len all shown outcome.far spans outcome.result,
-          ends ∙ ap status_of shallow.1 ∙ unprinted-status rules len all shown outcome.far spans outcome.result,
+              ∙ sym (unprinted-text file rules len all first outcome.far spans outcome.result)
+              ∙ unprinted-text file rules len all second outcome.far spans outcome.result,
+          ends ∙ ap status_of shallow.1
+              ∙ sym (unprinted-status rules len all first outcome.far spans outcome.result)
+              ∙ unprinted-status rules len all second outcome.far spans outcome.result,
         )
 
 -- ---- replies with text
@@ -150,6 +142,22 @@ unprinted-asked asked text rules outcome all reply (inr shallow) = (
       (extents_at rules outcome.expected.items) outcome.result
       ∙ sym (ap (with_text_if asked text) shallow.1),
 )
+
+pub asked-unprinted : (asked : Bool) (text : List ℕ) (rules : List Rule) (outcome : Outcome) (all : Bool) (reply : Reply)
+    → PrintsOutcomeAsked rules outcome text all NoTree asked reply
+    → PrintsOutcome rules outcome (length text) all NoTree reply
+asked-unprinted asked text rules outcome all reply is = by is.0 is.1 is.2
+  where
+    by : (plain : Reply) → PrintsOutcome rules outcome (length text) all NoTree plain
+        → reply ≡ with_text_if asked text plain → PrintsOutcome rules outcome (length text) all NoTree reply
+    by plain (inl deep) same = absurd (let bad : NoTree ≡ Nested = deep.0 in cc)
+    by plain (inr shallow) same =
+        inr (
+          shallow.0,
+          same ∙ ap (with_text_if asked text) shallow.1
+              ∙ sym (unprinted-with_text asked text rules (length text) all outcome.far
+              (extents_at rules outcome.expected.items) outcome.result),
+        )
 
 -- the JSON of a match with text, by its form
 pub match-printed : (file text : List ℕ) (partial : Bool) (form : TreeForm) (end far : ℕ) (expected : List Extent)

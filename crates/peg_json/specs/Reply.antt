@@ -7,10 +7,10 @@ use Rattle.serde_json.specs.View.{items_of}
 use Rattle.serde_json.specs.Written.{compact_text}
 use Rattle.peg_bytes.specs.Extent.{Extent}
 use Rattle.peg_semantics.specs.AbstractOutcomes.{Can}
-use Rattle.peg_semantics.specs.Form.{Reference}
 use Rattle.peg_tree.specs.Trees.{Trees}
 use Rattle.peg_tree.specs.Json.{nested_data, rows_data}
 use Rattle.peg_tree.specs.TextJson.{nested_text_data, rows_text_data}
+use Rattle.peg_coverage.specs.Unused.{AlternativeUse}
 use Rattle.peg_code.specs.Instructions.{Instruction}
 use Rattle.peg_lint.specs.declared.warning.Warning.{Warning}
 use Rattle.peg_parser.specs.Cause.{Cause}
@@ -18,7 +18,7 @@ use Rattle.peg_profile.specs.declared.counts.RuleProfile.{RuleProfile}
 use Rattle.peg_json.specs.CauseText.{bare_data, cause_data, cause_status}
 use Rattle.peg_listings.specs.CodeText.{code_data}
 use Rattle.peg_listings.specs.Extents.{extent_data}
-use Rattle.peg_json.specs.CoverageText.{coverage_data, status_of_coverage, too_large_word}
+use Rattle.peg_json.specs.CoverageText.{NamedUse, coverage_data, status_of_coverage, too_large_word}
 use Rattle.peg_listings.specs.LintText.{lint_data, status_of_warnings}
 use Rattle.peg_json.specs.ProfileText.{profile_data, status_of_end}
 use Rattle.peg_listings.specs.TableText.{table_data}
@@ -27,15 +27,15 @@ use Rattle.peg_json.specs.declared.tree_form.TreeForm.{TreeForm}
 use Rattle.peg_json.specs.declared.tree_form.TreeForm.TheVariants.{Nested, Rows, NoTree}
 
 -- A reply of the tool: a refusal, a table of outcomes with the rules' names, or the number of rules of an accepted
--- grammar. Others are the code with the entry of each rule, the rules' names with warnings, a profile, what texts use, a
--- failure, and a match.
+-- grammar. Others are the code with the entry of each rule, the rules' names with warnings, a profile, what texts use,
+-- a failure, and a match.
 --
--- A profile has how the parse has ended, the number of its steps, and the rules' names with their profiles.
--- What texts use has the number of texts, how many of them match, the numbers of those whose parse was stopped, and the
--- rules and alternatives that are unused; or the marked grammar, by which that is found, is over a limit.
--- A failure is the furthest failure: a position of the text, and the spans of terminals in the grammar file. A match
--- adds to these its end, the rules' names and the tree with its printed form. `partial` is a match shorter than asked
--- for. A match with text is one whose tree is printed with the bytes of each node without children.
+-- A profile has how the parse has ended, the number of its steps, and the rules' names with their profiles. What texts
+-- use has the number of texts, how many of them match, the numbers of those whose parse was stopped, and the rules and
+-- alternatives that are unused, each with whether it is tried; or the marked grammar, by which that is found, is over a
+-- limit. A failure is the furthest failure: a position of the text, and the spans of terminals in the grammar file. A
+-- match adds to these its end, the rules' names and the tree with its printed form. `partial` is a match shorter than
+-- asked for. A match with text is one whose tree is printed with the bytes of each node without children.
 pub data Reply : Type 0 where
   Refused : Cause → Reply
   Tabled : (names : List (List ℕ)) → (cans : List Can) → Reply
@@ -43,7 +43,8 @@ pub data Reply : Type 0 where
   Coded : (code : List Instruction) → (entries : List ℕ) → Reply
   Linted : (names : List (List ℕ)) → List Warning → Reply
   Profiled : (end : ProfileEnd) → (steps : ℕ) → (names : List (List ℕ)) → List RuleProfile → Reply
-  Covered : (texts matched : ℕ) → (stopped : List ℕ) → (rules : List Reference) → (alternatives : List Extent) → Reply
+  Covered : (texts matched : ℕ) → (stopped : List ℕ) → (rules : List NamedUse)
+      → (alternatives : List AlternativeUse) → Reply
   NoCoverage : Reply
   Failed : (far : ℕ) → (expected : List Extent) → Reply
   Matched : (partial : Bool) → TreeForm → (end far : ℕ) → (expected : List Extent) → (names : List (List ℕ))
@@ -156,7 +157,8 @@ printed file (Accepted rules) = accepted_data rules
 printed file (Coded code entries) = code_data code entries
 printed file (Linted names warnings) = lint_data file names warnings
 printed file (Profiled end steps names profiles) = profile_data end steps names profiles
-printed file (Covered texts matched stopped rules alternatives) = coverage_data file texts matched stopped rules alternatives
+printed file (Covered texts matched stopped rules alternatives) =
+    coverage_data file texts matched stopped rules alternatives
 printed file NoCoverage = bare_data too_large_word
 printed file (Failed far expected) = failed_data far expected
 printed file (Matched partial form end far expected names tree) =

@@ -1,10 +1,11 @@
 //! The lines that say what texts use of a grammar.
 ghost use Rattle.std.specs.Prelude.{◌≡◌, ◌<◌, ℕ, All, List, IfOk, length, map};
 ghost use Rattle.serde_json.specs.View.{view};
-ghost use Rattle.peg_bytes.specs.Extent.{extent};
+ghost use Rattle.peg_coverage.specs.Unused.{alternative_use, rule_use};
+ghost use Rattle.peg_coverage.specs.declared.coverage.UnusedRule.{UnusedRule};
 ghost use Rattle.peg_grammar.specs.GrammarRules.{rules_in};
 ghost use Rattle.peg_json.specs.CauseText.{bare_data};
-ghost use Rattle.peg_json.specs.CoverageText.{reference_at, status_of_coverage, too_large_word};
+ghost use Rattle.peg_json.specs.CoverageText.{named_use, status_of_coverage, too_large_word};
 ghost use Rattle.peg_json.specs.Lines.{IsReply, line_bytes};
 ghost use Rattle.peg_json.specs.Reply.{Covered, NoCoverage};
 ghost use Rattle.peg_json.specs.Statuses.{status_code};
@@ -26,10 +27,12 @@ pub fn coverage_line(
     grammar: &Grammar,
     coverage: &Coverage,
 ) -> Result<Line, AllocError>
-    requires { All (λ rule. rule < length (rules_in grammar.now)) coverage.now.unused_rules.items }
+    requires { All (λ (unused : UnusedRule). unused.rule < length (rules_in grammar.now))
+        coverage.now.unused_rules.items }
     ensures { IfOk result (λ line. IsReply file.now (Covered coverage.now.texts coverage.now.matched
-        coverage.now.stopped.items (map (reference_at (rules_in grammar.now)) coverage.now.unused_rules.items)
-        (map extent coverage.now.unused_alternatives.items)) (line_bytes line) (status_code line.status)) }
+        coverage.now.stopped.items
+        (map (named_use (rules_in grammar.now)) (map rule_use coverage.now.unused_rules.items))
+        (map alternative_use coverage.now.unused_alternatives.items)) (line_bytes line) (status_code line.status)) }
 {
     let text = coverage_json(alloc, file, grammar, coverage)?;
     Ok(Line::new(text, coverage_status(coverage)))
@@ -38,8 +41,8 @@ pub fn coverage_line(
 // The exit status for what texts use: a limit if a parse was stopped, and otherwise done if nothing is unused.
 fn coverage_status(coverage: &Coverage) -> Status
     ensures { (rules : List Rule) → status_code result ≡ status_of_coverage
-        coverage.now.stopped.items (map (reference_at rules) coverage.now.unused_rules.items)
-        (map extent coverage.now.unused_alternatives.items) }
+        coverage.now.stopped.items (map (named_use rules) (map rule_use coverage.now.unused_rules.items))
+        (map alternative_use coverage.now.unused_alternatives.items) }
 {
     if !coverage.stopped.is_empty() {
         return Status::Limit;

@@ -54,9 +54,8 @@ Its 28 literals, 17 classes and 3 dots are the terminals 0 to 47.
   $ grep -o '"test",[0-9]*' code | sort -u | wc -l
   48
 
-On an empty text, where a definition is missing, no rule is used; each has its name and the offset where its line
-starts.
+A text that is stopped uses nothing, so that each rule is listed, with its name and the offset where its line starts.
 
-  $ pegtool profile figure.peg --coverage /dev/null | grep -o '"rule":"[A-Za-z]*","start":[0-9]*' > places
+  $ pegtool profile figure.peg --coverage /dev/null --steps 1 2> e | grep -o '"rule":"[A-Za-z]*","start":[0-9]*' > places
   > wc -l < places; grep -ob '^[A-Za-z]*' figure.peg | sed 's/\(.*\):\(.*\)/"rule":"\2","start":\1/' | cmp - places
   31

@@ -249,6 +249,14 @@ The option for coverage is given once, and only to profile.
   unexpected argument '--coverage'
   pegtool parse --help
 
+A prefix counts for the coverage alone.
+
+  $ pegtool profile g t --prefix > o 2> e
+  [3]
+  $ cat o; grep -o -e '^error: .*' -e '^  --coverage' e
+  error: the following required arguments were not provided:
+    --coverage
+
 An explanation needs a grammar file, with any of the other options, too.
 
   $ pegtool explain 2> e

@@ -81,7 +81,7 @@ Nested n times the code has 3 times 2^n instructions: 786,432 for 18, and 1,572,
   $ bash nested 18 ')+' | pegtool check /dev/stdin
   {"result":"accepted","rules":1}
 
-Each of 195,075 choices has 4 instructions, and 6 with the calls of its markers, which is over the limit.
+Each of 195,075 choices has 4 instructions, and 8 with the calls of its markers, which is over the limit.
 
   $ echo "S <- ((('a' / 'b'){255}){255}){3}" > marked.peg
   $ pegtool check marked.peg

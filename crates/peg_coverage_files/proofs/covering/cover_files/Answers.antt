@@ -1,10 +1,9 @@
-use Rattle.std.proofs.Common.{arith, map, string_bytes}
+use Rattle.std.proofs.Common.{◌∙◌, arith, map, string_bytes}
 use Rattle.std.proofs.lemmas.List.{length-map}
-use Rattle.peg_coverage.specs.Covered.{settings_of}
+use Rattle.peg_coverage.specs.Covered.{has_noted, is_made, settings_of}
 use Rattle.peg_coverage_files.specs.NamedTexts.{files_named, texts_in}
-use Rattle.peg_diagnostics.specs.Marked.{marked_rules}
 use Rattle.peg_io.specs.NamedFile.{bytes_of}
-use Rattle.peg_coverage_files.proofs.CoveringLemmas.{covered-empty}
+use Rattle.peg_coverage_files.proofs.CoveringLemmas.{noted-made, same-alternatives, same-rules}
 use Rattle.peg_coverage_files.proofs.covering.cover_files.Goals as goal
 
 pub returns-clause-covered : goal.returns-clause-covered
@@ -13,17 +12,21 @@ returns-clause-covered g c rules start is at =
     let names = c.args.names.now in
     let files = files_named file_at names in
     let counts = c.in_ok-counts.counts in
+    let used = c.cover_texts.new.used in
+    let covered = c.in_ok-counts.ensures.covered rules start is at in
+    let same = noted-made rules start (settings_of c.args.options.now) c.args.needed (texts_in files) c.in_ok-used.used
+    used counts.matched counts.stopped.items c.in_ok-used.ensures.empty covered in
     record {
-      set = c.cover_texts.new.used;
-      covered = covered-empty (marked_rules rules) start (settings_of c.args.options.now) (texts_in files) c.in_ok-used.used
-          c.cover_texts.new.used counts.matched counts.stopped.items c.in_ok-used.ensures.empty
-          (c.in_ok-counts.ensures.covered rules start is at);
+      parsed = covered.parsed;
+      are = covered.are;
       count = omega (
         arith,
         length-map names string_bytes,
         length-map (map string_bytes names) file_at,
         length-map files bytes_of,
       );
-      rules_unused = c.in_ok-unused_rules.ensures rules is;
-      alternatives_unused = c.in_ok-unused_alternatives.ensures rules is;
+      rules_unused = c.in_ok-unused_rules.ensures rules is
+          ∙ same-rules rules (has_noted rules used) (is_made covered.parsed) same;
+      alternatives_unused = c.in_ok-unused_alternatives.ensures rules is
+          ∙ same-alternatives rules (has_noted rules used) (is_made covered.parsed) same;
     }

@@ -1,12 +1,11 @@
-use Rattle.std.proofs.Common.{◌≢◌, ◌∙◌, ℕ, All, List, arith, map, string_bytes, subst, sym, take}
+use Rattle.std.proofs.Common.{◌∙◌, ℕ, All, List, arith, map, string_bytes, subst, sym, take}
 use Rattle.std.specs.declared.alloc.Global.{Global}
 use Rattle.std.specs.declared.string.String.{String}
 use Rattle.peg_coverage.specs.Covered.{HaveCovered, settings_of}
 use Rattle.peg_coverage_files.specs.CoveredTexts.{HasCoveredText}
 use Rattle.peg_coverage_files.specs.CoveringFaults.{IsFaultOf, IsFaultOfText, IsParsable}
 use Rattle.peg_coverage_files.specs.NamedTexts.{files_named, texts_in}
-use Rattle.peg_diagnostics.specs.Marked.{marked_rules}
-use Rattle.peg_io.specs.NamedFile.{NamedFile, Missing, bytes_of}
+use Rattle.peg_io.specs.NamedFile.{NamedFile, IsMissing, bytes_of}
 use Rattle.peg_parser.specs.Parser.{start_named}
 use Rattle.peg_coverage_files.proofs.CoveringLemmas.{all-more, all-names, covered-more, few-more, file-fault, files-count, files-more, names-more}
 use Rattle.peg_coverage_files.proofs.CoveringLemmas.{refused-by}
@@ -41,17 +40,17 @@ names-preserved g c =
       count = covers.count ∙ c.names.invariant.count;
       few = few-more how old.matched new.matched i c.in_ok-count.ensures.matched c.names.invariant.few;
       covered = λ rules start is at.
-          subst (λ (files : List NamedFile). HaveCovered (marked_rules rules) start settings (texts_in files) c.args.used.now
+          subst (λ (files : List NamedFile). HaveCovered rules start settings c.args.needed (texts_in files) c.args.used.now
           c.cover_text.new.used new.matched new.stopped.items)
           (sym (files-more file_at names i name c.names-test.true c.index-names-number.is))
-          (covered-more (marked_rules rules) start settings so_far file c.args.used.now c.names.used c.cover_text.new.used how i
+          (covered-more rules start settings c.args.needed so_far file c.args.used.now c.names.used c.cover_text.new.used how i
           old.matched new.matched old.stopped.items new.stopped.items (files-count file_at names i (omega (arith, c.names-test.true)))
           (c.names.invariant.covered rules start is at)
-          (subst (λ (n : List ℕ). HasCoveredText (marked_rules rules) start settings (bytes_of (file_at n)) c.names.used
+          (subst (λ (n : List ℕ). HasCoveredText rules start settings c.args.needed (bytes_of (file_at n)) c.names.used
           c.cover_text.new.used how) c.deref.ensures (covers.covered rules start is at))
           c.in_ok-count.ensures.matched c.in_ok-count.ensures.stopped);
-      present = all-more (λ (f : NamedFile). f ≢ Missing) file_at names i name c.names-test.true c.index-names-number.is
-          c.names.invariant.present (subst (λ (n : List ℕ). file_at n ≢ Missing) c.deref.ensures covers.present);
+      present = all-more (λ (f : NamedFile). ¬ IsMissing f) file_at names i name c.names-test.true c.index-names-number.is
+          c.names.invariant.present (subst (λ (n : List ℕ). ¬ IsMissing (file_at n)) c.deref.ensures covers.present);
       parsable = λ rules is.
           names-more (λ (n : List ℕ). IsParsable (file_at n)) names i name c.names-test.true c.index-names-number.is
           (c.names.invariant.parsable rules is)
@@ -61,13 +60,13 @@ names-preserved g c =
 pub returns-clause-covered : goal.returns-clause-covered
 returns-clause-covered g c rules start is at =
     let file_at = g.O.Opener.file_at c.args.files.now in
-    subst (λ (n : List (String Global)). HaveCovered (marked_rules rules) start (settings_of c.args.options.now)
+    subst (λ (n : List (String Global)). HaveCovered rules start (settings_of c.args.options.now) c.args.needed
     (texts_in (files_named file_at n)) c.args.used.now c.names.used c.names.counts.matched c.names.counts.stopped.items)
     (all-names c.args.names.now c.names.number (omega (arith, c.names-test.false)))
     (c.names.invariant.covered rules start is at)
 
 pub returns-clause-present : goal.returns-clause-present
 returns-clause-present g c =
-    subst (λ (n : List (String Global)). All (λ (f : NamedFile). f ≢ Missing)
+    subst (λ (n : List (String Global)). All (λ (f : NamedFile). ¬ IsMissing f)
     (files_named (g.O.Opener.file_at c.args.files.now) n))
     (all-names c.args.names.now c.names.number (omega (arith, c.names-test.false))) c.names.invariant.present

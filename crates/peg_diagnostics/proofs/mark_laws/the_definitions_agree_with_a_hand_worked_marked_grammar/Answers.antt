@@ -2,7 +2,9 @@ use Rattle.std.proofs.Common.{◌≡◌, ℕ, ◌+◌, ◌<◌, List, [], ◌∷
 use Rattle.std.proofs.lemmas.Fmt.{decimal_digit}
 use Rattle.peg_bytes.specs.Extent.{between}
 use Rattle.peg_diagnostics.specs.Marked.{marked_rules, marker_name}
-use Rattle.peg_diagnostics.specs.MarkedExamples.{nested, nested_marked, nested_result, nested_with}
+use Rattle.peg_diagnostics.specs.Attempts.{AreAttempts, attempts_in}
+use Rattle.peg_diagnostics.specs.MarkedExamples.{guarded, guarded_attempts, nested, nested_attempts, nested_marked}
+use Rattle.peg_diagnostics.specs.MarkedExamples.{nested_result, nested_with}
 use Rattle.peg_semantics.specs.Form.{Name}
 use Rattle.peg_semantics.specs.Record.{Record, IsRecord, record_in}
 use Rattle.peg_semantics.specs.Rules.{Rule}
@@ -13,7 +15,8 @@ digit n small = ap (λ l. 33 ∷ l) (decimal_digit n small)
 
 same_rules : marked_rules nested ≡ nested_marked
 same_rules = λ i. nested_with (digit 0 (omega arith) i) (digit 1 (omega arith) i) (digit 2 (omega arith) i)
-    (digit 3 (omega arith) i)
+    (digit 3 (omega arith) i) (digit 4 (omega arith) i) (digit 5 (omega arith) i) (digit 6 (omega arith) i)
+    (digit 7 (omega arith) i) (digit 8 (omega arith) i)
 
 abbrev HasResult : List Rule → Type 0
 HasResult rules =
@@ -31,3 +34,17 @@ returns-clause-count c = refl
 
 pub returns-clause-result : goal.returns-clause-result
 returns-clause-result c = subst HasResult (sym same_rules) marked_result
+
+nested_tries : (r : Record) × AreAttempts nested (codes "cd") (codes "S") r nested_attempts
+unfolding record_in attempts_in
+nested_tries = (_, (16, refl, refl))
+
+pub returns-clause-attempts : goal.returns-clause-attempts
+returns-clause-attempts c = nested_tries
+
+guarded_tries : (r : Record) × AreAttempts guarded (codes "b") (codes "S") r guarded_attempts
+unfolding record_in attempts_in
+guarded_tries = (_, (16, refl, refl))
+
+pub returns-clause-in_predicates : goal.returns-clause-in_predicates
+returns-clause-in_predicates c = guarded_tries

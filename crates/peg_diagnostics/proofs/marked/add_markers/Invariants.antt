@@ -7,7 +7,7 @@ use Rattle.peg_diagnostics.proofs.marked.add_markers.Given as goal
 -- the rules so far and the remaining markers are those at the start and all markers
 abbrev pub invariant-spans : goal.invariant-spans
 invariant-spans l = record {
-  rules : rules_of l.definitions.items ++ marker_rules l.number (drop l.span-index (map extent l.spans))
+  rules : rules_of l.definitions.items ++ marker_rules l.marker (drop l.span-index (map extent l.spans))
       ≡ rules_of l.initial.definitions.items ++ marker_rules 0 (map extent l.spans);
-  counted : l.number ≡ l.span-index;
+  counted : l.marker ≡ l.span-index;
 }

@@ -1,4 +1,4 @@
-use Rattle.std.proofs.Common.{◌≡◌, ℕ, IfOk, List, string_bytes, subst}
+use Rattle.std.proofs.Common.{◌≡◌, IfOk, List, string_bytes, subst}
 use Rattle.serde_json.specs.Written.{compact_text}
 use Rattle.peg_grammar.specs.GrammarRules.{rules_in}
 use Rattle.peg_semantics.specs.Rules.{names}

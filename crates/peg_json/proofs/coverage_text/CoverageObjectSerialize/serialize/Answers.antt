@@ -1,10 +1,10 @@
-use Rattle.std.proofs.Common.{◌≡◌, ℕ, Some, map, refl, subst, sym}
+use Rattle.std.proofs.Common.{ℕ, Some, map, refl, subst}
 use Rattle.std.proofs.lemmas.Result.{on_ok_weaker}
 use Rattle.serde.specs.Event.{Logs}
 use Rattle.serde.specs.Event as event
-use Rattle.peg_bytes.specs.Extent.{extent}
+use Rattle.peg_coverage.specs.Unused.{alternative_use, rule_use}
 use Rattle.peg_grammar.specs.GrammarRules.{rules_in}
-use Rattle.peg_json.specs.CoverageText.{coverage_members, reference_at}
+use Rattle.peg_json.specs.CoverageText.{coverage_members, named_use}
 use Rattle.peg_json.proofs.coverage_text.CoverageObjectSerialize.serialize.Goals as goal
 
 pub returns : goal.returns
@@ -12,8 +12,8 @@ returns g c =
     let value = c.args.self.now in
     let matched = c.in_ok-serialize_member.ensures in
     let texts = c.in_ok-serialize_member-2.ensures in
-    let rest = coverage_members value.file.now value.texts (map (reference_at (rules_in value.grammar.now)) value.rules.now)
-    (map extent value.alternatives.now) in
+    let rest = coverage_members value.file.now value.texts (map (named_use (rules_in value.grammar.now))
+    (map rule_use value.rules.now)) (map alternative_use value.alternatives.now) in
     let last = g.S.Serializer.written c.end_map.new.self in
     on_ok_weaker c.end_map.result (λ ends. (
       g.S.Serializer.written c.begin_map.new.self,
