@@ -2,7 +2,7 @@
 ghost use Rattle.std.specs.Prelude.{◌≡◌, ◌≢◌, ◌≤◌, ◌<◌, ◌+◌, ◌-◌, ◌↔◌, ℕ, List, IfSome, None, Some, length, min, slice_get};
 ghost use Rattle.peg_c.specs.Handles.{HoldsExplanationOf, held_expected, held_mismatch, held_grammar, held_message};
 ghost use Rattle.peg_c.specs.Handles.{held_rules};
-ghost use Rattle.peg_explain.specs.Explanations.{ExplainingStaysWithin, ExplainingTakesMoreSteps};
+ghost use Rattle.peg_explain.specs.Explanations.{ExplainingAnswersWithin, ExplainingStaysWithin, ExplainingTakesMoreSteps};
 ghost use Rattle.peg_grammar.specs.Limits.{max_text_bytes};
 ghost use Rattle.peg_handle.specs.Contents.{content_grammar, content_rules};
 ghost use Rattle.peg_handle.specs.Explanations.{IsExplanationOf};
@@ -48,6 +48,8 @@ pub extern "C" fn peg_explain(
         → ExplainingTakesMoreSteps rules text.now (start_of_bytes start.now) (step_limit steps)) }
     ensures enough { IfSome (held_rules grammar.old.content) (λ rules. memo ≡ 0 → result ≤ FAILED
         → ExplainingStaysWithin rules text.now (start_of_bytes start.now) (step_limit steps)) }
+    ensures within { IfSome (held_rules grammar.old.content) (λ rules. result ≤ FAILED
+        → ExplainingAnswersWithin rules text.now (start_of_bytes start.now) (step_limit steps)) }
     ensures statuses { FAILED < result → NO_SUCH_START ≤ result }
     ensures greatest { result ≤ TEXT_TOO_LONG }
 {
@@ -87,6 +89,8 @@ fn explain_into(
         → ExplainingTakesMoreSteps rules text.now (start_of_bytes start.now) (step_limit steps)) }
     ensures enough { IfSome (content_rules content.now) (λ rules. memo ≡ 0 → result ≤ FAILED
         → ExplainingStaysWithin rules text.now (start_of_bytes start.now) (step_limit steps)) }
+    ensures within { IfSome (content_rules content.now) (λ rules. result ≤ FAILED
+        → ExplainingAnswersWithin rules text.now (start_of_bytes start.now) (step_limit steps)) }
     ensures statuses { FAILED < result → NO_SUCH_START ≤ result }
     ensures greatest { result ≤ TEXT_TOO_LONG }
 {

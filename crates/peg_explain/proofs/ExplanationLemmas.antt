@@ -1,11 +1,14 @@
 -- Explanations by the blame of items, and by the failed tests of terminals.
-use Rattle.std.proofs.Common.{◌≡◌, ℕ, IfSome, List, Option, None, Some, refl}
+use Rattle.std.proofs.Common.{◌≡◌, ℕ, IfSome, List, Ok, Option, None, Some, refl, subst}
 use Rattle.peg_blame.specs.BlameOutcome.{IsBlameOutcome}
 use Rattle.peg_grammar.specs.Outcomes.{IsParseOutcome}
+use Rattle.peg_machine.specs.declared.answer.Answer.{Answer}
+use Rattle.peg_parser.specs.Calls.{IsSumOfSteps}
+use Rattle.peg_parser.specs.ParseContract.{HasParseSteps}
 use Rattle.peg_semantics.specs.Rules.{Rule}
 use Rattle.peg_tree.specs.declared.outcome.Outcome.{Outcome}
-use Rattle.peg_explain.specs.Explanations.{AreRestsFor, HasNoBlameParser, IsExplained, IsExplanation, IsMismatchIn}
-use Rattle.peg_explain.specs.Explanations.{IsMismatchMessage, ItemFacts, by_blame, by_tests, facts_by_blame}
+use Rattle.peg_explain.specs.Explanations.{AreRestsFor, HasNoBlameParser, HasStepsWithin, IsExplained, IsExplanation}
+use Rattle.peg_explain.specs.Explanations.{IsMismatchIn, IsMismatchMessage, ItemFacts, by_blame, by_tests, facts_by_blame}
 use Rattle.peg_explain.specs.Explanations.{facts_by_tests}
 use Rattle.peg_explain.specs.declared.mismatch.Mismatch.{Mismatch}
 use Rattle.peg_explain.specs.declared.names.Rest.{Rest}
@@ -52,3 +55,16 @@ no_message-explains file rules style name text (Some start) (by_blame outcome bl
     by_blame outcome blamed rests are says
 no_message-explains file rules style name text (Some start) (by_tests outcome lacks parsed says) =
     by_tests outcome lacks parsed says
+
+-- the steps of a parse that has an answer stay within the limit
+pub steps-within : (rules : List Rule) (text : List ℕ) (named : Option (List ℕ)) (is_plain : Type 0)
+    (max_steps : Option ℕ) (answer : Answer) → HasParseSteps rules text named is_plain max_steps (Ok answer)
+    → HasStepsWithin rules text named max_steps answer
+steps-within rules text named is_plain max_steps answer steps =
+    let takes = steps.plain.1 in record {
+      from = takes.0;
+      named = takes.1;
+      sum = subst (λ (found : Option (List ℕ)). IfSome found (λ from. IsSumOfSteps rules text from answer)) takes.1
+          steps.own;
+      allowed = steps.allowed;
+    }

@@ -1,6 +1,6 @@
 -- The explanation of a text: the message for the outcome of its parse.
-use Rattle.std.specs.Prelude.{◌≡◌, ◌≢◌, ◌⊎◌, ℕ, Bool, true, false, not, ◌&&◌, if◌then◌else◌, List, []}
-use Rattle.std.specs.Prelude.{◌++◌, codes, Option, None, Some, length, map, option_map, slice_get, take}
+use Rattle.std.specs.Prelude.{◌≡◌, ◌≢◌, ◌⊎◌, ◌≤◌, ℕ, Bool, true, false, not, ◌&&◌, if◌then◌else◌, List, []}
+use Rattle.std.specs.Prelude.{◌++◌, codes, IfSome, Option, None, Some, length, map, option_map, slice_get, take}
 use Rattle.peg_blame.specs.BlameOutcome.{IsBlameOutcome}
 use Rattle.peg_blame.specs.Faults.{CanBeBlamed, IsBlameRefusal}
 use Rattle.peg_blame.specs.declared.fault.BlameFault.{BlameFault}
@@ -13,10 +13,13 @@ use Rattle.peg_diagnostics.specs.declared.kinds.ItemKind.{ItemKind}
 use Rattle.peg_grammar.specs.Outcomes.{IsParseOutcome}
 use Rattle.peg_messages.specs.Failures.{failure_message}
 use Rattle.peg_messages.specs.declared.failure.Failure.{Failure}
+use Rattle.peg_machine.specs.declared.answer.Answer.{Answer}
 use Rattle.peg_messages.specs.declared.items.Item.{Item}
+use Rattle.peg_parser.specs.Calls.{IsSumOfSteps}
 use Rattle.peg_parser.specs.StepLimits.{TakesMoreSteps}
 use Rattle.peg_semantics.specs.Record.{RuleCall}
 use Rattle.peg_semantics.specs.Rules.{Rule, names}
+use Rattle.peg_semantics.specs.Starts.{start_name}
 use Rattle.peg_semantics.specs.Terminals.{extents_of_terminals}
 use Rattle.peg_tree.specs.declared.outcome.Outcome.{Outcome}
 use Rattle.peg_explain.specs.Names.{AreRests, is_class_or_dot, numbered_extent, stands_for}
@@ -224,3 +227,24 @@ abbrev pub ExplainingStaysWithin : List Rule → (text : List ℕ) → (start : 
 ExplainingStaysWithin rules text start max_steps =
     (CanBeBlamed rules × ¬ TakesMoreSteps (diagnostic_rules rules) text start max_steps)
     ⊎ (HasNoBlameParser rules × ¬ TakesMoreSteps rules text start max_steps)
+
+-- The steps of an answer stay within the limit. They are those of a list of calls, which as a set are those of Ford's
+-- record of the text from the start.
+pub record HasStepsWithin (rules : List Rule) (text : List ℕ) (start : Option (List ℕ)) (max_steps : Option ℕ)
+    (answer : Answer) : Type 0 where
+  pub from : List ℕ
+  pub named : start_name rules start ≡ Some from
+  pub sum : IsSumOfSteps rules text from answer
+  pub allowed : (limit : ℕ) → max_steps ≡ Some limit → answer.steps ≤ limit
+
+-- The parse that an explanation needs has an answer whose steps stay within the limit, with a memo, too. It is the
+-- parse by the diagnostic rules if the rules have a parser of blame, else the parse by the rules themselves.
+abbrev pub ExplainingAnswersWithin : List Rule → (text : List ℕ) → (start : Option (List ℕ)) → (max_steps : Option ℕ)
+    → Type 0
+ExplainingAnswersWithin rules text start max_steps =
+    (CanBeBlamed rules × ((answer : Answer)
+    × IfSome (start_name rules start) (λ from. IsBlameOutcome rules text from answer.outcome)
+    × HasStepsWithin (diagnostic_rules rules) text start max_steps answer))
+    ⊎ (HasNoBlameParser rules × ((answer : Answer)
+    × IfSome (start_name rules start) (λ from. IsParseOutcome rules text from answer.outcome)
+    × HasStepsWithin rules text start max_steps answer))

@@ -16,7 +16,8 @@ ghost use Rattle.peg_tree.specs.Selected.{has_rule};
 ghost use Rattle.peg_blame.specs.InText.{IsInText};
 ghost use Rattle.peg_diagnostics.specs.ItemKinds.{kinds_of_items};
 ghost use Rattle.peg_diagnostics.specs.Items.{rules_of_items};
-ghost use Rattle.peg_explain.specs.Explanations.{AreRestsBy, ExplainingStaysWithin, ExplainingTakesMoreSteps};
+ghost use Rattle.peg_explain.specs.Explanations.{AreRestsBy, ExplainingAnswersWithin, ExplainingStaysWithin};
+ghost use Rattle.peg_explain.specs.Explanations.{ExplainingTakesMoreSteps};
 ghost use Rattle.peg_explain.specs.Explanations.{HasMismatch, IsExplanation, IsMismatchIn, IsMismatchMessage, ItemFacts};
 ghost use Rattle.peg_explain.specs.Explanations.{expected_items, fact_of, message_item_of, note_text, rule_name};
 ghost use Rattle.peg_explain.specs.Explanations.{shown_item};
@@ -120,6 +121,8 @@ impl<'a> Explainer<'a> {
         ensures enough { (file : List ℕ) (rules : List Rule) → IsExplainerOf file rules self.now
             → options.now.memo ≡ 0 → OnOk result
             (ExplainingStaysWithin rules text.now (start_named options.now) options.now.steps) }
+        ensures within { (file : List ℕ) (rules : List Rule) → IsExplainerOf file rules self.now
+            → OnOk result (ExplainingAnswersWithin rules text.now (start_named options.now) options.now.steps) }
     {
         match self.mismatch(alloc, text, options)? {
             Some(mismatch) => Ok(Some(self.message(alloc, name, text, &mismatch)?)),
@@ -152,6 +155,8 @@ impl<'a> Explainer<'a> {
         ensures enough { (file : List ℕ) (rules : List Rule) → IsExplainerOf file rules self.now
             → options.now.memo ≡ 0 → OnOk result
             (ExplainingStaysWithin rules text.now (start_named options.now) options.now.steps) }
+        ensures within { (file : List ℕ) (rules : List Rule) → IsExplainerOf file rules self.now
+            → OnOk result (ExplainingAnswersWithin rules text.now (start_named options.now) options.now.steps) }
     {
         match &self.blames {
             Some(blames) => {

@@ -28,7 +28,7 @@ module _ (file_at : List ℕ → NamedFile) (input : Option (List ℕ)) (list : 
 -- a list that can't be opened
 pub unopened-list : (file : NamedFile) → (IsSome (bytes_of file) → ⊥) → IsListingOf file Unopened
 unopened-list Unspecified none = tt
-unopened-list Missing none = refl
+unopened-list (Missing kind) none = refl
 unopened-list (Holds bytes) none = absurd (none refl)
 unopened-list (Readable bytes) none = absurd (none refl)
 unopened-list (Folder names) none = tt

@@ -7,7 +7,7 @@ use Rattle.std.proofs.KnownBytes.{Keeps-refl}
 use Rattle.std.proofs.lemmas.List.{length-append, take_all, take_at}
 use Rattle.std.proofs.lemmas.List.Elements.{filter-append}
 use Rattle.std.proofs.Math.Seq.{take-append-add}
-use Rattle.peg_io.specs.NamedFile.{NamedFile, Unspecified, Missing, Holds, Readable, Folder, bytes_of, is_readable}
+use Rattle.peg_io.specs.NamedFile.{NamedFile, Unspecified, Missing, Holds, Readable, Folder, IsMissing, bytes_of, is_readable}
 use Rattle.peg_explain_files.specs.Entries.{AreFaultEntries, entry_fault, entry_name, entry_verdict, message_of}
 use Rattle.peg_explain_files.specs.Explained.{ExplainsTexts}
 use Rattle.peg_explain_files.specs.Listings.{ExplainsParts, IsListingFrom, LeadsByListing, LeadsBySource, StopsInParts}
@@ -114,11 +114,11 @@ stopped-last setting fault read carried a b new parts last =
 -- ---- lists in files
 
 -- what is read of a source is read of the file
-pub listing-of : (file : NamedFile) (left : Option (List ℕ)) (never : Bool) (listing : Listing) → file ≢ Missing
+pub listing-of : (file : NamedFile) (left : Option (List ℕ)) (never : Bool) (listing : Listing) → ¬ IsMissing file
     → IfSome (bytes_of file) (λ bytes. left ≡ Some bytes) → (is_readable file ≡ true → never ≡ true)
     → IsListingFrom left never listing → IsListingOf file listing
 listing-of Unspecified left never listing there bytes sure is = tt
-listing-of Missing left never listing there bytes sure is = absurd (there refl)
+listing-of (Missing kind) left never listing there bytes sure is = absurd (there tt)
 listing-of (Holds bytes) left never listing there same sure is =
     (subst (λ (l : Option (List ℕ)). IsListingFrom l never listing) same is).0
 listing-of (Readable bytes) left never listing there same sure is =
@@ -128,7 +128,7 @@ listing-of (Folder names) left never listing there bytes sure is = tt
 -- something can be read of each file
 pub some-listing : (file : NamedFile) → (listing : Listing) × IsListingOf file listing
 some-listing Unspecified = (Unopened, tt)
-some-listing Missing = (Unopened, refl)
+some-listing (Missing kind) = (Unopened, refl)
 some-listing (Holds bytes) = (Whole (take max_list_bytes bytes), refl)
 some-listing (Readable bytes) = (Whole (take max_list_bytes bytes), (refl, tt))
 some-listing (Folder names) = (Unopened, tt)

@@ -13,7 +13,7 @@ IsRead limit bytes Unreadable = Unit {0}
 -- what is read of a file, by what is specified of it
 abbrev pub IsContentOf : (limit : ℕ) → NamedFile → Content → Type 0
 IsContentOf limit Unspecified content = Unit {0}
-IsContentOf limit Missing content = content ≡ Unopened
+IsContentOf limit (Missing kind) content = content ≡ Unopened
 IsContentOf limit (Holds bytes) content = IsRead limit bytes content
 IsContentOf limit (Readable bytes) content = IsRead limit bytes content × (content ≢ Unreadable)
 IsContentOf limit (Folder names) content = Unit {0}

@@ -83,7 +83,7 @@ IsUnbroken (Broken bytes) = ⊥
 -- this is read of a list in a file, by what is specified of it
 abbrev pub IsListingOf : NamedFile → Listing → Type 0
 IsListingOf Unspecified listing = Unit {0}
-IsListingOf Missing listing = listing ≡ Unopened
+IsListingOf (Missing kind) listing = listing ≡ Unopened
 IsListingOf (Holds bytes) listing = IsListed bytes listing
 IsListingOf (Readable bytes) listing = IsListed bytes listing × IsUnbroken listing
 IsListingOf (Folder names) listing = Unit {0}

@@ -3,7 +3,8 @@ use Rattle.std.specs.Prelude.{◌≡◌, ℕ, ◌+◌, ◌<◌, List, Option, No
 use Rattle.std.specs.Str.{IsUtf8}
 use Rattle.std.specs.declared.alloc.Global.{Global}
 use Rattle.std.specs.declared.vec.Vec.{Vec}
-use Rattle.peg_explain.specs.Explanations.{ExplainingStaysWithin, ExplainingTakesMoreSteps, IsExplanation}
+use Rattle.peg_explain.specs.Explanations.{ExplainingAnswersWithin, ExplainingStaysWithin, ExplainingTakesMoreSteps}
+use Rattle.peg_explain.specs.Explanations.{IsExplanation}
 use Rattle.peg_explain.specs.declared.style.ItemStyle.{ItemStyle}
 use Rattle.peg_grammar.specs.Limits.{max_text_bytes}
 use Rattle.peg_io.specs.NamedFile.{NamedFile}
@@ -16,15 +17,16 @@ use Rattle.peg_explain_files.specs.declared.reports.TextReport.{TextReport}
 use Rattle.peg_explain_files.specs.declared.reports.TextReport.TheVariants as report
 
 -- What is reported of a text from a start rule: nothing, if it matches as a whole; a message, if it doesn't; or that it
--- or its parse is over a limit. Without a memo, a parse over the limit of steps is always reported as such.
+-- or its parse is over a limit. The steps of the parse stay within the limit, with a memo, too. Without a memo, a parse
+-- over the limit of steps is always reported as such.
 pub data IsReport (file : List ℕ) (rules : List Rule) (style : ItemStyle) (start : Option (List ℕ)) (memo : ℕ) (steps : Option ℕ)
     (name text : List ℕ) : TextReport → Type 0 where
   matches : {from : List ℕ} → start_name rules start ≡ Some from → IsExplanation file rules style name text from None
-      → (memo ≡ 0 → ExplainingStaysWithin rules text start steps)
+      → (memo ≡ 0 → ExplainingStaysWithin rules text start steps) → ExplainingAnswersWithin rules text start steps
       → IsReport file rules style start memo steps name text report.Matches
   differs : {from : List ℕ} {message : Vec ℕ Global} → start_name rules start ≡ Some from
       → IsExplanation file rules style name text from (Some message.items)
-      → (memo ≡ 0 → ExplainingStaysWithin rules text start steps)
+      → (memo ≡ 0 → ExplainingStaysWithin rules text start steps) → ExplainingAnswersWithin rules text start steps
       → IsReport file rules style start memo steps name text (report.Differs message)
   too_long : max_text_bytes < length text → IsReport file rules style start memo steps name text report.TooLong
   too_many_steps : ExplainingTakesMoreSteps rules text start steps

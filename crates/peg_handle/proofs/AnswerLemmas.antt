@@ -4,6 +4,7 @@ use Rattle.peg_grammar.specs.Outcomes.{IsParseOutcome}
 use Rattle.peg_json.specs.Parses.{extents_at}
 use Rattle.peg_machine.specs.CoreOutcome.{saturated}
 use Rattle.peg_machine.specs.declared.answer.Answer.{Answer}
+use Rattle.peg_parser.specs.Calls.{IsSumOfSteps}
 use Rattle.peg_parser.specs.Fits.{Fits}
 use Rattle.peg_parser.specs.StepLimits.{TakesPlainSteps}
 use Rattle.peg_semantics.specs.Rules.{Rule}
@@ -19,8 +20,9 @@ pub is_answer : (rules : List Rule) (text start : List ℕ) (memo : ℕ) (named 
     → Fits rules answer.outcome
     → (count : ℕ) × TakesPlainSteps rules text named count × (answer.steps ≤ count)
     → (memo ≡ 0 → (count : ℕ) × TakesPlainSteps rules text named count × (answer.steps ≡ saturated count))
+    → IfSome (start_name rules named) (λ from. IsSumOfSteps rules text from answer)
     → IsAnswerTo rules text start memo found
-is_answer rules text start memo named answer found named_is answer_is expected outcome fits steps exact = record {
+is_answer rules text start memo named answer found named_is answer_is expected outcome fits steps exact own = record {
   outcome = subst (λ (name : Option (List ℕ)). IfSome (start_name rules name) (λ from.
       IsParseOutcome rules text from found.answer.outcome)) named_is
       (subst (λ (a : Answer). IfSome (start_name rules named) (λ from. IsParseOutcome rules text from a.outcome))
@@ -36,6 +38,10 @@ is_answer rules text start memo named answer found named_is answer_is expected o
       × (found.answer.steps ≡ saturated count)) named_is
       (subst (λ (a : Answer). (count : ℕ) × TakesPlainSteps rules text named count × (a.steps ≡ saturated count))
       (sym answer_is) (exact no_memo));
+  own = subst (λ (name : Option (List ℕ)). IfSome (start_name rules name) (λ from.
+      IsSumOfSteps rules text from found.answer)) named_is
+      (subst (λ (a : Answer). IfSome (start_name rules named) (λ from. IsSumOfSteps rules text from a))
+      (sym answer_is) own);
 }
 
 -- an error that is passed on is the error of the call

@@ -3,7 +3,7 @@ ghost use Rattle.std.specs.Prelude.{◌≡◌, ◌≤◌, ◌<◌, ◌^◌, ◌�
 ghost use Rattle.std.specs.Prelude.{map, OnOk};
 ghost use Rattle.peg_bytes.specs.Extent.{extent};
 ghost use Rattle.peg_explain.specs.Explainers.{IsExplainerOf};
-ghost use Rattle.peg_explain.specs.Explanations.{ExplainingStaysWithin, ExplainingTakesMoreSteps};
+ghost use Rattle.peg_explain.specs.Explanations.{ExplainingAnswersWithin, ExplainingStaysWithin, ExplainingTakesMoreSteps};
 ghost use Rattle.peg_grammar.specs.Limits.{max_text_bytes};
 ghost use Rattle.peg_handle.specs.Answers.{file_span};
 ghost use Rattle.peg_handle.specs.Explanations.{IsExplanationOf, ShowsMismatch, named_style};
@@ -38,6 +38,8 @@ pub fn explain(
         text.now (start_of_bytes start.now) (step_limit steps) }
     ensures enough { memo ≡ 0 → OnOk result (ExplainingStaysWithin (parser_rules grammar.now.parser) text.now
         (start_of_bytes start.now) (step_limit steps)) }
+    ensures within { OnOk result (ExplainingAnswersWithin (parser_rules grammar.now.parser) text.now
+        (start_of_bytes start.now) (step_limit steps)) }
 {
     let start = start_from(grammar.parser.grammar(), start)?;
     if text.len() > MAX_TEXT_BYTES {
@@ -67,6 +69,8 @@ fn explain_from(
     ensures limited { IsErrOf result ParseFault.StepLimit → ExplainingTakesMoreSteps (parser_rules grammar.now.parser)
         text.now (start_named options.now) options.now.steps }
     ensures enough { options.now.memo ≡ 0 → OnOk result (ExplainingStaysWithin (parser_rules grammar.now.parser) text.now
+        (start_named options.now) options.now.steps) }
+    ensures within { OnOk result (ExplainingAnswersWithin (parser_rules grammar.now.parser) text.now
         (start_named options.now) options.now.steps) }
 {
     let style = ItemStyle::from_flags(false, false);

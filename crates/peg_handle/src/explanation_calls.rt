@@ -1,7 +1,7 @@
 //! The bodies of the calls that make or read explanations. A call on other content than it needs changes nothing.
 ghost use Rattle.std.specs.Prelude.{◌≡◌, ◌≢◌, ◌≤◌, ◌<◌, ◌+◌, ◌-◌, ◌↔◌, ℕ, List, IfErr, IfOk, IfSome, IsErrOf, None, Some};
 ghost use Rattle.std.specs.Prelude.{length, min, slice_get, OnOk};
-ghost use Rattle.peg_explain.specs.Explanations.{ExplainingStaysWithin, ExplainingTakesMoreSteps};
+ghost use Rattle.peg_explain.specs.Explanations.{ExplainingAnswersWithin, ExplainingStaysWithin, ExplainingTakesMoreSteps};
 ghost use Rattle.peg_grammar.specs.Limits.{max_text_bytes};
 ghost use Rattle.peg_handle.specs.Contents.{content_expected, content_mismatch, content_grammar, content_message};
 ghost use Rattle.peg_handle.specs.Contents.{content_rules};
@@ -50,6 +50,8 @@ pub fn explain_by(
         → ExplainingTakesMoreSteps rules text.now (start_of_bytes start.now) (step_limit steps)) }
     ensures enough { IfSome (content_rules content.now) (λ rules. memo ≡ 0
         → OnOk result (ExplainingStaysWithin rules text.now (start_of_bytes start.now) (step_limit steps))) }
+    ensures within { IfSome (content_rules content.now) (λ rules.
+        OnOk result (ExplainingAnswersWithin rules text.now (start_of_bytes start.now) (step_limit steps))) }
     ensures least { IfErr result (λ status. NO_SUCH_START ≤ status) }
     ensures greatest { IfErr result (λ status. status ≤ TEXT_TOO_LONG) }
 {

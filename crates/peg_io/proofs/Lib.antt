@@ -1,2 +1,3 @@
+pub mod NamedFileLemmas
 pub mod SplitLaws
 mod TransferLemmas

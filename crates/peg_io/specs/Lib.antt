@@ -1,5 +1,6 @@
 pub mod Device
 pub mod FileSystem
+pub mod Listing
 pub mod NamedFile
 pub mod OpenFaults
 pub mod Reasons

@@ -3,6 +3,7 @@
 #![tactic(auto)]
 
 mod device;
+mod listing;
 mod opener;
 mod reasons;
 mod retry;
@@ -10,6 +11,7 @@ mod separator;
 mod transfer;
 
 pub use device::{Device, DeviceFault, Sink, Source};
+pub use listing::list_entries;
 pub use opener::{FileSystem, OpenFault, Opener};
 pub use reasons::reason;
 pub use separator::split;

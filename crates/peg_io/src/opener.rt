@@ -1,10 +1,11 @@
 //! Opening files and listing folders by name.
-ghost use Rattle.std.specs.Prelude.{◌≡◌, ◌++◌, ◌∷◌, [], ℕ, List, OnOk, Some, true, false, IfOk, IfSome, IsErr, IsErrAnd, IsSome};
+ghost use Rattle.std.specs.Prelude.{◌≡◌, ℕ, List, Some, true, false, IfErr, IfOk, IfSome, IsErr, IsErrAnd, IsSome};
 ghost use Rattle.std.specs.Prelude.{IsSorted, map, string_bytes, string_cmp};
-ghost use Rattle.peg_io.specs.NamedFile.{NamedFile, IsNoFolder, Missing, bytes_of, is_readable, names_in};
+ghost use Rattle.peg_io.specs.NamedFile.{NamedFile, IsMissing, IsNoFolder, bytes_of, is_readable, names_in, open_error};
 ghost use Rattle.peg_io.specs.OpenFaults.{IsOfFile};
 
 use crate::device::{Device, Source};
+use crate::listing::list_entries;
 use std::alloc::{AllocError, Global};
 use std::fs::Files;
 use std::io::ErrorKind;
@@ -59,9 +60,12 @@ pub trait Opener {
     ghost file_at: { Self → List ℕ → NamedFile };
 
     /// Opens the file with the given name, to be read from its start. A returned file has no failed read yet. A file
-    /// that is specified not to exist is `OpenFault::File`, and one with specified bytes isn't.
+    /// that is specified to give an error is `OpenFault::File` with the kind of that error, and one with specified
+    /// bytes isn't.
     fn open(&self, name: &str) -> Result<Self::File, OpenFault>
-        ensures missing { file_at self.now name.now ≡ Missing → IsErrAnd result IsOfFile }
+        ensures missing { IsMissing (file_at self.now name.now) → IsErrAnd result IsOfFile }
+        ensures kind { IfSome (open_error (file_at self.now name.now))
+            (λ kind. IfErr result (λ fault. fault ≡ OpenFault.File kind)) }
         ensures present { IsSome (bytes_of (file_at self.now name.now)) → ¬ IsErrAnd result IsOfFile }
         ensures bytes { IfOk result (λ file. IfSome (bytes_of (file_at self.now name.now))
             (λ bytes. Self.File.left file ≡ Some bytes)) }
@@ -110,19 +114,6 @@ impl<'a, R: Files + AllocGlobal + Clone + Drop> Opener for FileSystem<'a, R> {
 
     // A name that isn't UTF-8 is an error.
     fn list(&self, alloc: Global, name: &str) -> Result<Vec<String>, OpenFault> {
-        let mut names = Vec::new(alloc);
-        for entry in fs::read_dir(self.files, name)? {
-            push_name(alloc, &mut names, entry?.file_name())?;
-        }
-        names.sort_unstable();
-        Ok(names)
+        list_entries(alloc, fs::read_dir(self.files, name)?)
     }
-}
-
-// Appends a name.
-fn push_name(alloc: Global, names: &mut Vec<String>, name: &str) -> Result<(), AllocError>
-    ensures { OnOk result (map string_bytes names.new.items ≡ map string_bytes names.old.items ++ name.now ∷ []) }
-{
-    names.push(String::from_str(alloc, name)?)?;
-    Ok(())
 }

@@ -10,14 +10,14 @@ returns-in-Ok-None c file rules of from is =
     matches is (explained-from file rules c.args.explainer.now.style c.args.called.now c.args.called.now c.args.text.now from
     (start_name rules (start_named c.args.options.now)) c.in-Ok-None.field-0 None is refl
     c.in-Ok-None.field-0-is (c.in-Ok-None.ensures.explanation file rules of))
-    (c.in-Ok-None.ensures.enough file rules of)
+    (c.in-Ok-None.ensures.enough file rules of) (c.in-Ok-None.ensures.within file rules of)
 
 pub returns-in-Ok-Some : goal.returns-in-Ok-Some
 returns-in-Ok-Some c file rules of from is =
     differs is (explained-from file rules c.args.explainer.now.style c.args.called.now c.args.called.now c.args.text.now from
     (start_name rules (start_named c.args.options.now)) c.in-Ok-Some.field-0 (Some c.in-Ok-Some.message) is
     refl c.in-Ok-Some.field-0-is (c.in-Ok-Some.ensures.explanation file rules of))
-    (c.in-Ok-Some.ensures.enough file rules of)
+    (c.in-Ok-Some.ensures.enough file rules of) (c.in-Ok-Some.ensures.within file rules of)
 
 pub returns-in-Err-TextTooLong : goal.returns-in-Err-TextTooLong
 returns-in-Err-TextTooLong c file rules of from is =

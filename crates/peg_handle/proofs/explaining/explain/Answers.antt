@@ -1,5 +1,5 @@
 use Rattle.std.proofs.Common.{ℕ, List, OnOk, Option, subst}
-use Rattle.peg_explain.specs.Explanations.{ExplainingStaysWithin, ExplainingTakesMoreSteps}
+use Rattle.peg_explain.specs.Explanations.{ExplainingAnswersWithin, ExplainingStaysWithin, ExplainingTakesMoreSteps}
 use Rattle.peg_handle.specs.Starts.{start_of_bytes}
 use Rattle.peg_parser.specs.Parser.{parser_rules}
 use Rattle.peg_handle.proofs.explaining.explain.Goals as goal
@@ -21,3 +21,12 @@ returns-clause-enough c no_memo =
     (start_of_bytes c.args.start.now) limit)) c.limit_from.ensures
     (subst (λ (start : Option (List ℕ)). OnOk c.explain_from.result (ExplainingStaysWithin rules text start
     c.limit_from.result)) c.in_ok-start.ensures.named (c.explain_from.ensures.enough no_memo))
+
+pub returns-clause-within : goal.returns-clause-within
+returns-clause-within c =
+    let rules = parser_rules c.args.grammar.now.parser in
+    let text = c.args.text.now in
+    subst (λ (limit : Option ℕ). OnOk c.explain_from.result (ExplainingAnswersWithin rules text
+    (start_of_bytes c.args.start.now) limit)) c.limit_from.ensures
+    (subst (λ (start : Option (List ℕ)). OnOk c.explain_from.result (ExplainingAnswersWithin rules text start
+    c.limit_from.result)) c.in_ok-start.ensures.named c.explain_from.ensures.within)

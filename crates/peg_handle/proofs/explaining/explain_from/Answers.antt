@@ -82,3 +82,15 @@ returns-clause-enough c no_memo =
     let grammar = c.args.grammar.now in
     c.in_ok-mismatch.ensures.enough grammar.bytes.items (parser_rules grammar.parser)
     (made (goal.at.returns-clause-enough c).In_ok-explainer) no_memo
+
+pub returns-in-Some-clause-within : goal.returns-in-Some-clause-within
+returns-in-Some-clause-within c =
+    let grammar = c.args.grammar.now in
+    c.in_ok-mismatch.ensures.within grammar.bytes.items (parser_rules grammar.parser)
+    (made (goal.at.returns-in-Some-clause-within c).In_ok-explainer)
+
+pub returns-clause-within : goal.returns-clause-within
+returns-clause-within c =
+    let grammar = c.args.grammar.now in
+    c.in_ok-mismatch.ensures.within grammar.bytes.items (parser_rules grammar.parser)
+    (made (goal.at.returns-clause-within c).In_ok-explainer)

@@ -11,7 +11,7 @@ returns-clause-answer c =
     (option_map (λ name. name.now) c.in_ok-start.start) c.in_ok-answer.answer c.in_ok-found.found
     c.in_ok-start.ensures.named c.in_ok-found.ensures.answer c.in_ok-found.ensures.expected
     c.in_ok-answer.ensures.parse.outcome c.in_ok-answer.ensures.parse.fits c.in_ok-answer.ensures.parse.steps.plain
-    c.in_ok-answer.ensures.parse.steps.exact
+    c.in_ok-answer.ensures.parse.steps.exact c.in_ok-answer.ensures.parse.steps.own
 
 pub returns-clause-limit : goal.returns-clause-limit
 returns-clause-limit c =

@@ -6,6 +6,7 @@ use Rattle.peg_blame.proofs.InTextLemmas.{parse-in_text}
 use Rattle.peg_blame.specs.declared.blame_parser.BlameParser.{BlameParser}
 use Rattle.peg_bytes.specs.Extent.{extent}
 use Rattle.peg_bytes.specs.declared.span.Span.{Span}
+use Rattle.peg_diagnostics.specs.Diagnostic.{diagnostic_rules}
 use Rattle.peg_grammar.specs.Outcomes.{IsParseOutcome}
 use Rattle.peg_parser.specs.Parser.{start_named}
 use Rattle.peg_parser.specs.StepLimits.{TakesMoreSteps}
@@ -14,11 +15,11 @@ use Rattle.peg_semantics.specs.Starts.{start_name}
 use Rattle.peg_semantics.specs.Terminals.{extents_of_terminals}
 use Rattle.peg_explain.specs.Expected.{expected_spans, unnamed_fact}
 use Rattle.peg_explain.specs.Explainers.{IsBlameOf}
-use Rattle.peg_explain.specs.Explanations.{HasMismatch, HasNoBlameParser, expected_items, fact_of, facts_by_blame}
-use Rattle.peg_explain.specs.Explanations.{facts_by_tests}
+use Rattle.peg_explain.specs.Explanations.{HasMismatch, HasNoBlameParser, HasStepsWithin, expected_items, fact_of}
+use Rattle.peg_explain.specs.Explanations.{facts_by_blame, facts_by_tests}
 use Rattle.peg_explain.specs.Namings.{AreItemsFor}
 use Rattle.peg_explain.proofs.ExpectedLemmas.{unnamed-items}
-use Rattle.peg_explain.proofs.ExplanationLemmas.{blame-explains, tests-explain}
+use Rattle.peg_explain.proofs.ExplanationLemmas.{blame-explains, steps-within, tests-explain}
 use Rattle.peg_explain.proofs.explainer.Explainer.mismatch.Goals as goal
 
 pub returns-in_ok-expected-in-Some-clause-mismatch : goal.returns-in_ok-expected-in-Some-clause-mismatch
@@ -61,7 +62,7 @@ returns-in_ok-expected-in-None-clause-mismatch c file rules of_explainer =
 
 pub mismatch_in-requires-in-None-clause-in_text : goal.mismatch_in-requires-in-None-clause-in_text
 mismatch_in-requires-in-None-clause-in_text c =
-    parse-in_text _ _ _ _ _ _ (Ok c.in_ok-answer-in-None.answer) c.in_ok-answer-in-None.ensures.parse
+    parse-in_text _ _ _ _ _ _ _ (Ok c.in_ok-answer-in-None.answer) c.in_ok-answer-in-None.ensures.parse
 
 -- rules that have a parser of blame
 can-blame : (rules : List Rule) (blames : BlameParser) → IsBlameParserOf rules blames → CanBeBlamed rules
@@ -107,4 +108,38 @@ returns-in_ok-expected-in-None-clause-enough c file rules of_explainer no_memo =
       λ more. c.in_ok-answer-in-None.ensures.parse.limit.enough no_memo
           (subst (λ (l : List Rule). TakesMoreSteps l c.args.text.now (start_named c.args.options.now)
           c.args.options.now.steps) (sym of_explainer.has_parser) more),
+    )
+
+pub returns-in_ok-expected-in-Some-clause-within : goal.returns-in_ok-expected-in-Some-clause-within
+returns-in_ok-expected-in-Some-clause-within c file rules of_explainer =
+    let blames : IsBlameParserOf rules c.in-Some.blames = subst (IsBlameOf rules) c.in-Some.is of_explainer.blames in
+    let answer = c.in_ok-answer-in-Some.answer in
+    let answered = c.in_ok-answer-in-Some.ensures in
+    inl (
+      can-blame rules c.in-Some.blames blames,
+      (
+        answer,
+        answered.outcome rules blames,
+        steps-within (diagnostic_rules rules) c.args.text.now (start_named c.args.options.now) _
+            c.args.options.now.steps answer (answered.steps rules blames),
+      ),
+    )
+
+pub returns-in_ok-expected-in-None-clause-within : goal.returns-in_ok-expected-in-None-clause-within
+returns-in_ok-expected-in-None-clause-within c file rules of_explainer =
+    let text = c.args.text.now in
+    let start = start_named c.args.options.now in
+    let steps = c.args.options.now.steps in
+    let answer = c.in_ok-answer-in-None.answer in
+    let parse = c.in_ok-answer-in-None.ensures.parse in
+    let lacks : HasNoBlameParser rules = subst (IsBlameOf rules) c.in-None.is of_explainer.blames in
+    inr (
+      lacks,
+      (
+        answer,
+        subst (λ (l : List Rule). IfSome (start_name l start) (λ from. IsParseOutcome l text from answer.outcome))
+            of_explainer.has_parser parse.outcome,
+        subst (λ (l : List Rule). HasStepsWithin l text start steps answer) of_explainer.has_parser
+            (steps-within _ text start _ steps answer parse.steps),
+      ),
     )
