@@ -1,7 +1,7 @@
 -- The lines of what texts use.
 use Rattle.std.proofs.Common.{◌≡◌, ◌≢◌, ◌∙◌, ℕ, All, Bool, [], List, None, Option, Some, IfErr, IfOk, IfSome, Result, Ok, Err, ap, length, map, option_map}
 use Rattle.std.proofs.Common.{◌+◌, ◌<◌, ◌≤◌, ◌++◌, ◌∷◌, append-nil, arith, false, get_or, inl, inr, length-append, not, refl, string_bytes}
-use Rattle.std.proofs.Common.{subst, suc, sym, take, true}
+use Rattle.std.proofs.Common.{subst, suc, sym, take}
 use Rattle.std.proofs.Math.ListN.{get_or-append}
 use Rattle.std.proofs.Math.Seq.{get_or-append_seam}
 use Rattle.std.proofs.lemmas.Grind.{flat_map-append}
@@ -10,27 +10,28 @@ use Rattle.std.proofs.lemmas.List.Concat.{flat_map-cons}
 use Rattle.std.specs.List.{flat_map}
 use Rattle.std.specs.Prelude.{Contains}
 use Rattle.std.specs.declared.io.ErrorKind.{ErrorKind}
-use Rattle.std.proofs.lemmas.List.Elements.{All-filter, All-map}
+use Rattle.std.proofs.lemmas.List.Elements.{All-cons, All-filter, All-head, All-map, All-nil, All-tail}
 use Rattle.std.proofs.lemmas.Option.{get_or_from_slice_get, slice_get-map, slice_get_within}
 use Rattle.std.proofs.lemmas.List.FromFn.{get_or-range_with_len, length-range_with_len}
 use Rattle.std.specs.Io.KnownBytes.{Consumes, IsAtEnd, Keeps}
 use Rattle.std.specs.List.{range_with_len}
 use Rattle.std.proofs.lemmas.List.{get_or-map, length-map, take-map}
-use Rattle.peg_bytes.specs.Extent.{extent}
 use Rattle.peg_coverage.specs.Covered.{settings_of}
 use Rattle.peg_coverage.specs.CoverageFaults.{IsCoverageRefusal}
-use Rattle.peg_coverage.specs.Unused.{IsCoverageOf, unused_rules}
+use Rattle.peg_coverage.specs.Unused.{IsCoverageOf, RuleUse, alternative_use, rule_use, unmatched, unused_rules}
+use Rattle.peg_coverage.specs.declared.coverage.UnusedRule.{UnusedRule}
+use Rattle.peg_coverage.specs.declared.text_match.RequiredMatch.{RequiredMatch}
 use Rattle.peg_coverage.specs.declared.coverage.Coverage.{Coverage}
 use Rattle.peg_coverage.specs.declared.fault.CoverageFault.{CoverageFault}
 use Rattle.peg_coverage.specs.declared.fault.CoverageFault.TheVariants as coverage
 use Rattle.peg_coverage_files.specs.CoveringFaults.{IsFirst, IsParsable, IsTooLong}
 use Rattle.peg_coverage_files.specs.NamedTexts.{files_named, texts_in}
 use Rattle.peg_coverage_files.proofs.CoveringLemmas.{stopped-below}
-use Rattle.peg_diagnostics.specs.Marked.{marked_rules}
+use Rattle.peg_diagnostics.specs.Attempts.{Attempt, TriedRule, MatchedRule}
 use Rattle.std.specs.declared.alloc.Global.{Global}
 use Rattle.std.specs.declared.string.String.{String}
-use Rattle.peg_io.specs.NamedFile.{NamedFile, Missing, bytes_of, is_readable}
-use Rattle.peg_json.specs.CoverageText.{reference_at}
+use Rattle.peg_io.specs.NamedFile.{NamedFile, IsMissing, bytes_of, is_readable, open_error}
+use Rattle.peg_json.specs.CoverageText.{named_use}
 use Rattle.peg_json.specs.Lines.{IsReply, line_bytes}
 use Rattle.peg_json.specs.Reply.{Reply, Covered, NoCoverage, Refused, printed_line, status_of}
 use Rattle.peg_json.specs.Statuses.{status_code}
@@ -44,7 +45,6 @@ use Rattle.peg_parser.specs.declared.options.ParseOptions.{ParseOptions}
 use Rattle.peg_parser.specs.declared.refusal.Refusal.{Refusal}
 use Rattle.peg_semantics.specs.Rules.{Rule}
 use Rattle.peg_semantics.specs.Starts.{start_name}
-use Rattle.peg_tree.specs.Selected.{has_rule}
 use Rattle.peg_messages.specs.FileNames.{shown_name}
 use Rattle.peg_tool.specs.CoverageOutcome.{IsPrintedOf, WritesCoverage, error_lines, stopped_line, stopped_lines}
 use Rattle.peg_tool.specs.Faults.{IsFaultAmong, IsFaultAt, standard_output}
@@ -101,30 +101,32 @@ refused-alone file text size task why printed line names checks (of_cause cause 
 
 -- the reply for a grammar without a parser of coverage
 pub no-coverage-replies : (result : Result CoverageReply RequestFault) (why : CoverageFault) (rules : List Rule)
-    (files : List NamedFile) (start : Option (List ℕ)) (memo : ℕ) (steps : Option ℕ) (names : List (List ℕ)) (file : List ℕ)
+    (files : List NamedFile) (start : Option (List ℕ)) (memo : ℕ) (steps : Option ℕ) (needed : RequiredMatch)
+    (names : List (List ℕ)) (file : List ℕ)
     → IsCoverageRefusal rules why
     → IfOk result (λ reply. (why ≢ coverage.Memory) × (string_bytes reply.faults ≡ [])
     × ((bytes : List ℕ) → IsReply bytes NoCoverage (line_bytes reply.line) (status_code reply.line.status)))
-    → IfOk result (IsReplyOfKind (CoversTo rules files start memo steps) names file)
-no-coverage-replies (Ok reply) why rules files start memo steps names file refused is =
-    line-alone reply reply.line names file (CoversTo rules files start memo steps) NoCoverage refl is.1 (is.2 file) refl
+    → IfOk result (IsReplyOfKind (CoversTo rules files start memo steps needed) names file)
+no-coverage-replies (Ok reply) why rules files start memo steps needed names file refused is =
+    line-alone reply reply.line names file (CoversTo rules files start memo steps needed) NoCoverage refl is.1 (is.2 file) refl
     (marked_over_limit why is.0 refused)
-no-coverage-replies (Err fault) why rules files start memo steps names file refused is = tt
+no-coverage-replies (Err fault) why rules files start memo steps needed names file refused is = tt
 
 -- the reply for what texts use
-pub coverage-replies : (rules : List Rule) (files : List NamedFile) (options : ParseOptions) (from : List ℕ)
-    (coverage : Coverage) → start_name rules (start_named options) ≡ Some from
-    → All (λ (file : NamedFile). file ≢ Missing) files
-    → IsCoverageOf rules from (settings_of options) (texts_in files) coverage
-    → CoversTo rules files (start_named options) options.memo options.steps
-    (Covered coverage.texts coverage.matched coverage.stopped.items (map (reference_at rules) coverage.unused_rules.items)
-    (map extent coverage.unused_alternatives.items))
-coverage-replies rules files options from coverage is present of =
+pub coverage-replies : (rules : List Rule) (files : List NamedFile) (options : ParseOptions) (needed : RequiredMatch)
+    (from : List ℕ) (coverage : Coverage) → start_name rules (start_named options) ≡ Some from
+    → All (λ (file : NamedFile). ¬ IsMissing file) files
+    → IsCoverageOf rules from (settings_of options) needed (texts_in files) coverage
+    → CoversTo rules files (start_named options) options.memo options.steps needed
+    (Covered coverage.texts coverage.matched coverage.stopped.items
+    (map (named_use rules) (map rule_use coverage.unused_rules.items))
+    (map alternative_use coverage.unused_alternatives.items))
+coverage-replies rules files options needed from coverage is present of =
     let count : coverage.texts ≡ length files = of.count ∙ length-map files bytes_of in
-    subst (CoversTo rules files (start_named options) options.memo options.steps)
-    (λ i. Covered (sym count i) coverage.matched coverage.stopped.items (map (reference_at rules) (sym of.rules_unused i))
+    subst (CoversTo rules files (start_named options) options.memo options.steps needed)
+    (λ i. Covered (sym count i) coverage.matched coverage.stopped.items (map (named_use rules) (sym of.rules_unused i))
     (sym of.alternatives_unused i))
-    (has_coverage is present of.covered)
+    (has_coverage is present of.are)
 
 -- the first name whose text is too long has the first file with such a text
 pub first-file : (file_at : List ℕ → NamedFile) (names : List (List ℕ))
@@ -142,27 +144,49 @@ first-file file_at names first = record {
 -- ---- unused rules
 
 -- unused rules are rules of the grammar
-pub unused-below : (rules : List Rule) (set : List Bool) → All (λ (rule : ℕ). rule < length rules) (unused_rules rules set)
-unused-below rules set =
-    All-filter (λ (number : ℕ). not (has_rule set number)) (λ (rule : ℕ). rule < length rules)
+numbers-below : (rules : List Rule) (matches : ℕ → Bool)
+    → All (λ (rule : ℕ). rule < length rules) (unmatched matches (length rules))
+numbers-below rules matches =
+    All-filter (λ (number : ℕ). not (matches number)) (λ (rule : ℕ). rule < length rules)
     (range_with_len 0 (length rules)) (λ k d within.
     let count = length-range_with_len 0 (length rules) in
     let at = get_or-range_with_len 0 (length rules) k d (omega (arith, within, count)) in
     omega (arith, at, within, count))
 
+uses-below : (bound : ℕ) (made : Attempt → Bool) (numbers : List ℕ) → All (λ (rule : ℕ). rule < bound) numbers
+    → All (λ (unused : RuleUse). unused.0 < bound) (map (λ rule. (rule, made (TriedRule rule))) numbers)
+uses-below bound made numbers all =
+    All-map (λ (unused : RuleUse). unused.0 < bound) (λ rule. (rule, made (TriedRule rule))) numbers all
+
+items-below : (bound : ℕ) (items : List UnusedRule)
+    → All (λ (unused : RuleUse). unused.0 < bound) (map rule_use items)
+    → All (λ (unused : UnusedRule). unused.rule < bound) items
+items-below bound [] all = All-nil (λ (unused : UnusedRule). unused.rule < bound)
+items-below bound (item ∷ items) all =
+    All-cons (λ (unused : UnusedRule). unused.rule < bound) item items
+    (All-head (λ (unused : RuleUse). unused.0 < bound) (rule_use item) (map rule_use items) all)
+    (items-below bound items (All-tail (λ (unused : RuleUse). unused.0 < bound) (rule_use item) (map rule_use items) all))
+
+pub unused-below : (rules : List Rule) (made : Attempt → Bool) (items : List UnusedRule)
+    → map rule_use items ≡ unused_rules rules made
+    → All (λ (unused : UnusedRule). unused.rule < length rules) items
+unused-below rules made items is =
+    items-below (length rules) items (subst (All (λ (unused : RuleUse). unused.0 < length rules)) (sym is)
+    (uses-below (length rules) made (unmatched (λ rule. made (MatchedRule rule)) (length rules))
+    (numbers-below rules (λ rule. made (MatchedRule rule)))))
+
 -- stopped texts are among the names
-pub stopped-named : (rules : List Rule) (from : List ℕ) (options : ParseOptions) (file_at : List ℕ → NamedFile)
+pub stopped-named : (rules : List Rule) (from : List ℕ) (options : ParseOptions) (needed : RequiredMatch) (file_at : List ℕ → NamedFile)
     (names : List (String Global)) (coverage : Coverage)
-    → IsCoverageOf rules from (settings_of options) (texts_in (files_named file_at names)) coverage
+    → IsCoverageOf rules from (settings_of options) needed (texts_in (files_named file_at names)) coverage
     → All (λ (number : ℕ). number < length names) coverage.stopped.items
-stopped-named rules from options file_at names coverage of =
+stopped-named rules from options needed file_at names coverage of =
     let texts = texts_in (files_named file_at names) in
     let count : length texts ≡ length names =
     length-map (files_named file_at names) bytes_of ∙ length-map (map string_bytes names) file_at
     ∙ length-map names string_bytes in
     subst (λ (n : ℕ). All (λ (number : ℕ). number < n) coverage.stopped.items) count
-    (stopped-below (marked_rules rules) from (settings_of options) texts [] of.set coverage.matched coverage.stopped.items
-    of.covered)
+    (stopped-below rules from (settings_of options) needed texts of.parsed coverage.matched coverage.stopped.items of.are)
 
 -- ---- grammar files
 
@@ -233,10 +257,10 @@ fault-written task names (Some file) old new File keeps = λ text. inl keeps
 -- ---- the names of streams
 
 -- the name of an unread text is among the names of a request
-pub text-among : (first last unread : List ℕ) (names : List (List ℕ)) (IsBefore P : List ℕ → Type 0)
-    → IsFirst IsBefore (λ (name : List ℕ). (unread ≡ name) × P name) names
+pub text-among : (first last unread : List ℕ) (names : List (List ℕ)) (IsBefore Is : List ℕ → Type 0)
+    → ((name : List ℕ) → Is name → unread ≡ name) → IsFirst IsBefore Is names
     → Contains (first ∷ map shown_name names ++ last ∷ []) (shown_name unread)
-text-among first last unread names IsBefore P fault =
+text-among first last unread names IsBefore Is named fault =
     let shown = map shown_name names in
     let inside = slice_get_within names fault.index fault.element fault.here in
     let within : fault.index < length shown = omega (arith, inside, length-map names shown_name) in
@@ -246,7 +270,7 @@ text-among first last unread names IsBefore P fault =
       omega (arith, within, length-append shown (last ∷ [])),
       get_or-append shown (last ∷ []) (shown_name unread) fault.index within
           ∙ (get_or-map shown_name names fault.index fault.element (shown_name unread) inside
-          ∙ ap shown_name (there ∙ sym fault.is.0)),
+          ∙ ap shown_name (there ∙ sym (named fault.element fault.is))),
     )
 
 -- so are the first name and the last one
@@ -263,7 +287,9 @@ pub text-faults-among : {X : Type 0} (first last : List ℕ) (names : List (List
     → IfErr result (IsFaultAmong (first ∷ map shown_name names ++ last ∷ []))
 text-faults-among first last names file_at (Ok x) is = tt
 text-faults-among first last names file_at (Err (failed.Device (streams.File unread) kind)) is =
-    text-among first last unread.now names (λ name. IsParsable (file_at name)) (λ name. is_readable (file_at name) ≡ false) is
+    text-among first last unread.now names (λ name. IsParsable (file_at name)) (λ name. (unread.now ≡ name)
+    × (is_readable (file_at name) ≡ false) × IfSome (open_error (file_at name)) (λ error. kind ≡ error))
+    (λ name fault. fault.0) is
 text-faults-among first last names file_at (Err (failed.Device streams.Input kind)) is = absurd is
 text-faults-among first last names file_at (Err (failed.Device streams.Output kind)) is = absurd is
 text-faults-among first last names file_at (Err failed.Memory) is = tt

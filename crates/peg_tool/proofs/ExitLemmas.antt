@@ -144,9 +144,9 @@ exit-cause (FilesRequest task g t) file_at ended exit is names = (
       (err-map ended (NamesCause (FilesRequest task g t) file_at) (IsFaultAt (shown_name g) None)
       (λ fault n. n.2 readable) names),
 )
-exit-cause (CoverRequest start memo steps g texts) file_at ended exit is names =
+exit-cause (CoverRequest start memo steps needed g texts) file_at ended exit is names =
     λ missing. exit-naming ended exit (shown_name g) None is
-    (err-map ended (NamesCause (CoverRequest start memo steps g texts) file_at) (IsFaultAt (shown_name g) None)
+    (err-map ended (NamesCause (CoverRequest start memo steps needed g texts) file_at) (IsFaultAt (shown_name g) None)
     (λ fault n. n missing) names)
 exit-cause (ExplainRequest question printing) file_at ended exit is names = tt
 exit-cause (TestRequest question) file_at ended exit is names = tt

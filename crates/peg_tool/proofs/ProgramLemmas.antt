@@ -13,7 +13,7 @@ takes_any CheckTask file left bytes other = tt
 takes_any CodeTask file left bytes other = tt
 takes_any (LintTask start selection) file left bytes other = tt
 takes_any (ProfileTask start memo steps) file left bytes other = absurd (other tt)
-takes_any (CoverTask files start memo steps) file left bytes other = tt
+takes_any (CoverTask files start memo steps needed) file left bytes other = tt
 takes_any (ParseTask start memo steps all form nodes with_bytes) file left bytes other = absurd (other tt)
 
 pub takes_left : (task : ToolTask) (file : List ℕ) (left : Option (List ℕ)) (bytes : List ℕ) → left ≡ Some bytes
@@ -23,7 +23,7 @@ takes_left CheckTask file left bytes is = tt
 takes_left CodeTask file left bytes is = tt
 takes_left (LintTask start selection) file left bytes is = tt
 takes_left (ProfileTask start memo steps) file left bytes is = λ rules accepts. is
-takes_left (CoverTask files start memo steps) file left bytes is = tt
+takes_left (CoverTask files start memo steps needed) file left bytes is = tt
 takes_left (ParseTask start memo steps all form nodes with_bytes) file left bytes is = λ rules accepts. is
 
 -- a task on a file alone, for any text

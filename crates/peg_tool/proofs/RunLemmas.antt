@@ -308,7 +308,7 @@ any_text CodeTask text file bytes long = tt
 any_text (LintTask start selection) text file bytes long = tt
 any_text (ProfileTask start memo steps) text file bytes long =
     λ rules accepts. absurd (omega (arith, long, accepts.read.within))
-any_text (CoverTask files start memo steps) text file bytes long = tt
+any_text (CoverTask files start memo steps needed) text file bytes long = tt
 any_text (ParseTask start memo steps all form nodes with_bytes) text file bytes long =
     λ rules accepts. absurd (omega (arith, long, accepts.read.within))
 

@@ -1,7 +1,6 @@
 -- What is written of a test if an allocation fails.
 use Rattle.std.proofs.Common.{◌≡◌, ℕ, List, Option, Result, Err, inl, inr, subst}
 use Rattle.std.specs.Io.KnownBytes.{Keeps}
-use Rattle.peg_explain_files.specs.Printings.{WritesAlone}
 use Rattle.peg_explain_files.specs.declared.ended.Ended.{Ended}
 use Rattle.peg_explain_files.specs.declared.ended.ExplainFault.{ExplainFault}
 use Rattle.peg_explain_files.specs.declared.ended.ExplainFault.TheVariants.{Memory}

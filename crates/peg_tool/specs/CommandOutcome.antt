@@ -53,8 +53,8 @@ RequestOutcome (FilesRequest task g t) file_at input old new ended = (done : Res
     × IfSome (bytes_of (file_at g)) (λ file. IfSome (bytes_of (file_at t)) (λ text.
     WritesOrFails (IsPrinted task file text) old new done))
     × (ended ≡ done_result done)
-RequestOutcome (CoverRequest start memo steps g texts) file_at input old new ended =
-    (found : Result Findings ProgramFault) × CoverageOutcome start memo steps g texts file_at old new found
+RequestOutcome (CoverRequest start memo steps needed g texts) file_at input old new ended =
+    (found : Result Findings ProgramFault) × CoverageOutcome start memo steps needed g texts file_at old new found
     × (ended ≡ found_result found)
 RequestOutcome (ExplainRequest question printing) file_at input old new ended =
     (found : Result Findings ProgramFault) × ExplanationOutcome question printing file_at input old new found

@@ -46,8 +46,8 @@ request_of request.Joined = InputRequest
 request_of (request.Help text) = HelpRequest text.now
 request_of (request.OnFile g command) = FileRequest (task_of command) g.now
 request_of (request.OnFiles g t command) = FilesRequest (task_of command) g.now t.now
-request_of (request.Cover g texts options) =
-    CoverRequest (start_named options) options.memo options.steps g.now (map string_bytes texts.now)
+request_of (request.Cover g texts options needed) =
+    CoverRequest (start_named options) options.memo options.steps needed g.now (map string_bytes texts.now)
 request_of (request.Explain query printing) = ExplainRequest (question_of query) printing
 request_of (request.Test query) = TestRequest (asked.question_of query)
 

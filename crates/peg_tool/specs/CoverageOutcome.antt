@@ -2,6 +2,7 @@
 use Rattle.std.specs.Prelude.{◌≡◌, ◌⊎◌, ℕ, List, [], Option, Result, Ok, Err, IfSome, codes, map, slice_index_or, string_bytes}
 use Rattle.std.specs.List.{flat_map}
 use Rattle.std.specs.Io.KnownBytes.{Appends, Keeps}
+use Rattle.peg_coverage.specs.declared.text_match.RequiredMatch.{RequiredMatch}
 use Rattle.peg_explain_files.specs.Entries.{program_line}
 use Rattle.peg_io.specs.NamedFile.{NamedFile, bytes_of}
 use Rattle.peg_json.specs.Lines.{IsLineOf}
@@ -44,9 +45,10 @@ WritesCoverage IsRight old new (Err File) = Keeps old new
 
 -- The result of a request for what texts with these names use of the grammar in file `g`, over files by name. It promises
 -- nothing if the bytes of the grammar file aren't specified.
-abbrev pub CoverageOutcome : (start : Option (List ℕ)) → (memo : ℕ) → (steps : Option ℕ) → (g : List ℕ)
-    → (texts : List (List ℕ)) → (file_at : List ℕ → NamedFile) → (old new : Option (List ℕ))
+abbrev pub CoverageOutcome : (start : Option (List ℕ)) → (memo : ℕ) → (steps : Option ℕ) → (needed : RequiredMatch)
+    → (g : List ℕ) → (texts : List (List ℕ)) → (file_at : List ℕ → NamedFile) → (old new : Option (List ℕ))
     → Result Findings ProgramFault → Type 0
-CoverageOutcome start memo steps g texts file_at old new result =
+CoverageOutcome start memo steps needed g texts file_at old new result =
     IfSome (bytes_of (file_at g)) (λ file. (text : List ℕ) → WritesCoverage
-    (IsPrintedOf (RepliesTo file text (CoverTask (map file_at texts) start memo steps)) texts file) old new result)
+    (IsPrintedOf (RepliesTo file text (CoverTask (map file_at texts) start memo steps needed)) texts file)
+    old new result)

@@ -1,8 +1,8 @@
 -- Describes code: what is printed of what texts use, and why there is nothing.
-use Rattle.std.specs.Prelude.{◌≡◌, ℕ, false, List, Option, Result, Ok, Err, string_bytes}
+use Rattle.std.specs.Prelude.{◌≡◌, ℕ, false, IfSome, List, Option, Result, Ok, Err, string_bytes}
 use Rattle.std.specs.Io.KnownBytes.{Appends}
 use Rattle.peg_coverage_files.specs.CoveringFaults.{IsFirst, IsParsable}
-use Rattle.peg_io.specs.NamedFile.{NamedFile, is_readable}
+use Rattle.peg_io.specs.NamedFile.{NamedFile, is_readable, open_error}
 use Rattle.peg_io.specs.Transfer.{AppendsProperPrefix}
 use Rattle.peg_json.specs.Lines.{line_bytes}
 use Rattle.peg_json.specs.Reply.{Reply}
@@ -22,11 +22,13 @@ IsReplyOfKind Kind names file reply =
     IsPrintedOf Kind names file (line_bytes reply.line) (status_code reply.line.status) (string_bytes reply.faults)
 
 -- Whether a fault is true: the file of a text with this name isn't specified to be readable, and those before it are
--- there and not too long. A failed allocation is always possible.
+-- there and not too long. If it is specified that the file can't be opened, the fault has the kind of that error. A
+-- failed allocation is always possible.
 abbrev pub IsTextFault : (file_at : List ℕ → NamedFile) → (names : List (List ℕ)) → RequestFault → Type 0
 IsTextFault file_at names (fault.Device (streams.File unread) kind) =
     IsFirst (λ (name : List ℕ). IsParsable (file_at name))
-    (λ (name : List ℕ). (unread.now ≡ name) × (is_readable (file_at name) ≡ false)) names
+    (λ (name : List ℕ). (unread.now ≡ name) × (is_readable (file_at name) ≡ false)
+    × IfSome (open_error (file_at name)) (λ error. kind ≡ error)) names
 IsTextFault file_at names (fault.Device at kind) = ⊥
 IsTextFault file_at names fault.Memory = Unit {0}
 

@@ -5,7 +5,7 @@ use Rattle.std.specs.IoError.{error_kind}
 use Rattle.std.specs.declared.io.Error.{Error}
 use Rattle.std.specs.declared.io.ErrorKind.{ErrorKind}
 use Rattle.std.specs.declared.io.ErrorKind.TheVariants.{OutOfMemory}
-use Rattle.peg_io.specs.NamedFile.{NamedFile, Missing, is_readable}
+use Rattle.peg_io.specs.NamedFile.{NamedFile, IsMissing, is_readable}
 use Rattle.peg_messages.specs.FileNames.{shown_name}
 use Rattle.peg_cli.specs.declared.words.WordsFault.{WordsFault}
 use Rattle.peg_cli.specs.declared.words.WordsFault.TheVariants as words
@@ -71,11 +71,11 @@ abbrev pub IsExitOfCause : ToolRequest → (file_at : List ℕ → NamedFile) �
 IsExitOfCause InputRequest file_at exit = IsExitNaming standard_input exit
 IsExitOfCause (HelpRequest text) file_at exit = Unit {0}
 IsExitOfCause (FileRequest task g) file_at exit = IsExitNaming (shown_name g) exit
-IsExitOfCause (FilesRequest task g t) file_at exit = (file_at g ≡ Missing → IsExitNaming (shown_name g) exit)
+IsExitOfCause (FilesRequest task g t) file_at exit = (IsMissing (file_at g) → IsExitNaming (shown_name g) exit)
     × (is_readable (file_at g) ≡ true → IsExitNaming (shown_name t) exit)
     × (is_readable (file_at t) ≡ true → IsExitNaming (shown_name g) exit)
-IsExitOfCause (CoverRequest start memo steps g texts) file_at exit =
-    file_at g ≡ Missing → IsExitNaming (shown_name g) exit
+IsExitOfCause (CoverRequest start memo steps needed g texts) file_at exit =
+    IsMissing (file_at g) → IsExitNaming (shown_name g) exit
 IsExitOfCause (ExplainRequest question printing) file_at exit = Unit {0}
 IsExitOfCause (TestRequest question) file_at exit = Unit {0}
 

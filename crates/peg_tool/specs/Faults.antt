@@ -1,7 +1,7 @@
 -- Why a request has no answer, and what is said of it on standard error.
 use Rattle.std.specs.Prelude.{◌≡◌, ℕ, true, Contains, IfSome, List, [], ◌∷◌, ◌++◌, Option, None, Result, Ok, Err, codes, map}
 use Rattle.std.specs.declared.io.ErrorKind.{ErrorKind}
-use Rattle.peg_io.specs.NamedFile.{NamedFile, Missing, is_readable}
+use Rattle.peg_io.specs.NamedFile.{NamedFile, IsMissing, is_readable}
 use Rattle.peg_io.specs.Reasons.{reason_of}
 use Rattle.peg_messages.specs.FileNames.{shown_name}
 use Rattle.peg_tool.specs.Requests.{ToolRequest, InputRequest, HelpRequest, FileRequest, FilesRequest, CoverRequest, ExplainRequest, TestRequest}
@@ -31,7 +31,8 @@ stream_names InputRequest = standard_input ∷ standard_output ∷ []
 stream_names (HelpRequest text) = standard_output ∷ []
 stream_names (FileRequest task g) = shown_name g ∷ standard_output ∷ []
 stream_names (FilesRequest task g t) = shown_name g ∷ shown_name t ∷ standard_output ∷ []
-stream_names (CoverRequest start memo steps g texts) = shown_name g ∷ map shown_name texts ++ standard_output ∷ []
+stream_names (CoverRequest start memo steps needed g texts) =
+    shown_name g ∷ map shown_name texts ++ standard_output ∷ []
 stream_names (ExplainRequest question printing) = standard_output ∷ []
 stream_names (TestRequest question) = standard_output ∷ []
 
@@ -72,9 +73,10 @@ abbrev pub NamesCause : ToolRequest → (file_at : List ℕ → NamedFile) → R
 NamesCause InputRequest file_at it = IsFaultAt standard_input None it
 NamesCause (HelpRequest text) file_at it = Unit {0}
 NamesCause (FileRequest task g) file_at it = IsFaultAt (shown_name g) None it
-NamesCause (FilesRequest task g t) file_at it = (file_at g ≡ Missing → IsFaultAt (shown_name g) None it)
+NamesCause (FilesRequest task g t) file_at it = (IsMissing (file_at g) → IsFaultAt (shown_name g) None it)
     × (is_readable (file_at g) ≡ true → IsFaultAt (shown_name t) None it)
     × (is_readable (file_at t) ≡ true → IsFaultAt (shown_name g) None it)
-NamesCause (CoverRequest start memo steps g texts) file_at it = file_at g ≡ Missing → IsFaultAt (shown_name g) None it
+NamesCause (CoverRequest start memo steps needed g texts) file_at it =
+    IsMissing (file_at g) → IsFaultAt (shown_name g) None it
 NamesCause (ExplainRequest question printing) file_at it = Unit {0}
 NamesCause (TestRequest question) file_at it = Unit {0}

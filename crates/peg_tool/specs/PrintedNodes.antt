@@ -1,6 +1,9 @@
 -- Which nodes of a tree are printed. The root is printed in any case.
-use Rattle.std.specs.Prelude.{ℕ, Bool, true, not, ◌==◌, List, [], Option, None, Some, find, bytes_eq}
+use Rattle.std.specs.Prelude.{◌≡◌, ◌≢◌, ◌<◌, ℕ, Bool, true, not, ◌==◌, List, [], Option, None, Some, find, bytes_eq, length}
 use Rattle.std.specs.List.{list_any, slice_split}
+use Rattle.peg_code.specs.ShownRules.{is_shown_by}
+use Rattle.peg_json.specs.declared.tree_form.TreeForm.{TreeForm}
+use Rattle.peg_json.specs.declared.tree_form.TreeForm.TheVariants.{NoTree}
 use Rattle.peg_semantics.specs.Rules.{Rule, is_defined, name_of}
 
 -- which nodes are printed: all, those of the rules with the listed names, or all but these
@@ -38,3 +41,9 @@ abbrev pub shown_by : List Rule → PrintedNodes → (rule : ℕ) → Bool
 shown_by rules AllNodes rule = true
 shown_by rules (NodesOf listed) rule = is_listed rules listed rule
 shown_by rules (NodesExcept listed) rule = not (is_listed rules listed rule)
+
+-- Describes code: a set of rules that a parser shows, or all without a set, has the rules whose nodes are printed,
+-- unless no tree is printed
+abbrev pub ShowsPrinted : List Rule → (set : Option (List Bool)) → TreeForm → PrintedNodes → Type 0
+ShowsPrinted rules set form nodes =
+    form ≢ NoTree → (rule : ℕ) → rule < length rules → is_shown_by set rule ≡ shown_by rules nodes rule

@@ -19,7 +19,9 @@ use Rattle.peg_io.specs.NamedFile.{NamedFile}
 use Rattle.peg_io.specs.Split.{IsSplit}
 use Rattle.peg_tool.specs.CoverageReplies.{CoversTo}
 use Rattle.peg_tool.specs.PrintedNodes.{PrintedNodes, first_unknown, shown_by}
+use Rattle.peg_coverage.specs.declared.text_match.RequiredMatch.{RequiredMatch}
 use Rattle.peg_tool.specs.Task.{ToolTask, TableTask, CheckTask, CodeTask, LintTask, ProfileTask, CoverTask, ParseTask, Checks}
+use Rattle.peg_coverage.specs.declared.text_match.RequiredMatch.{RequiredMatch}
 use Rattle.peg_tool.specs.Task.{default_task}
 
 -- the reply to a task on a grammar file and a text
@@ -42,8 +44,8 @@ pub data RepliesTo (file text : List ℕ) : ToolTask → Reply → Type 0 where
       → Accepts file rules → ProfilesTo rules text start memo steps reply
       → RepliesTo file text (ProfileTask start memo steps) reply
   covered : {rules : List Rule} {files : List NamedFile} {start : Option (List ℕ)} {memo : ℕ} {steps : Option ℕ}
-      {reply : Reply} → Accepts file rules → CoversTo rules files start memo steps reply
-      → RepliesTo file text (CoverTask files start memo steps) reply
+      {needed : RequiredMatch} {reply : Reply} → Accepts file rules → CoversTo rules files start memo steps needed reply
+      → RepliesTo file text (CoverTask files start memo steps needed) reply
   no_such_rule : {rules : List Rule} {start : Option (List ℕ)} {memo : ℕ} {steps : Option ℕ} {all : Bool}
       {form : TreeForm} {nodes : PrintedNodes} {with_bytes : Bool} (name : List ℕ) → Accepts file rules
       → first_unknown rules nodes ≡ Some name

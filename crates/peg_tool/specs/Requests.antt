@@ -1,11 +1,13 @@
 -- What the arguments of the program request.
-use Rattle.std.specs.Prelude.{◌≡◌, false, true, ℕ, All, List, Option, map, option_map, string_bytes}
+use Rattle.std.specs.Prelude.{◌≡◌, Bool, false, true, ℕ, All, List, Option, map, option_map, string_bytes}
 use Rattle.peg_explain.specs.Styles.{style_of}
 use Rattle.peg_explain_files.specs.Names.{IsInput, name_end}
 use Rattle.peg_explain_files.specs.Printings.{printing_of}
 use Rattle.peg_explain_files.specs.Questions.{Question}
 use Rattle.peg_explain_files.specs.declared.printing.Printing.{Printing}
-use Rattle.peg_io.specs.NamedFile.{NamedFile, Missing, is_readable}
+use Rattle.peg_coverage.specs.declared.text_match.RequiredMatch.{RequiredMatch}
+use Rattle.peg_coverage.specs.declared.text_match.RequiredMatch.TheVariants.{Whole, Prefix}
+use Rattle.peg_io.specs.NamedFile.{NamedFile, IsMissing, is_readable}
 use Rattle.peg_cli.specs.declared.words.Words.{Words}
 use Rattle.peg_cli.specs.declared.words.Words.TheVariants.{Joined, Help, Table, Check, Code, Lint, Profile, Coverage, Explain, Test, Parse}
 use Rattle.peg_lint.specs.FileWarnings.{selection_of}
@@ -22,10 +24,15 @@ pub data ToolRequest : Type 0 where
   HelpRequest : (text : List ℕ) → ToolRequest
   FileRequest : (task : ToolTask) → (g : List ℕ) → ToolRequest
   FilesRequest : (task : ToolTask) → (g t : List ℕ) → ToolRequest
-  CoverRequest : (start : Option (List ℕ)) → (memo : ℕ) → (steps : Option ℕ) → (g : List ℕ) → (texts : List (List ℕ))
-      → ToolRequest
+  CoverRequest : (start : Option (List ℕ)) → (memo : ℕ) → (steps : Option ℕ) → (needed : RequiredMatch) → (g : List ℕ)
+      → (texts : List (List ℕ)) → ToolRequest
   ExplainRequest : (question : Question) → (printing : Printing) → ToolRequest
   TestRequest : (question : TestQuestion) → ToolRequest
+
+-- how much of a text has to match: the whole text, or with `--prefix` a prefix
+abbrev pub needed_of : (prefix : Bool) → RequiredMatch
+needed_of false = Whole
+needed_of true = Prefix
 
 -- what the arguments request
 abbrev pub requested : Words → ToolRequest
@@ -38,8 +45,9 @@ requested (Lint g start proved) =
     FileRequest (LintTask (option_map string_bytes start) (selection_of proved)) (string_bytes g)
 requested (Profile g t start memo steps) =
     FilesRequest (ProfileTask (option_map string_bytes start) memo steps) (string_bytes g) (string_bytes t)
-requested (Coverage g texts start memo steps) =
-    CoverRequest (option_map string_bytes start) memo steps (string_bytes g) (map string_bytes texts.items)
+requested (Coverage g texts start memo steps prefix) =
+    CoverRequest (option_map string_bytes start) memo steps (needed_of prefix) (string_bytes g)
+    (map string_bytes texts.items)
 requested (Explain g texts files_from null start memo steps rules terminals quiet) =
     ExplainRequest record {
       grammar = string_bytes g;
@@ -70,9 +78,9 @@ requested (Parse g t start memo steps all rows no_tree show hide text) =
 abbrev pub LacksGrammar : ToolRequest → (file_at : List ℕ → NamedFile) → Type 0
 LacksGrammar InputRequest file_at = ⊥
 LacksGrammar (HelpRequest text) file_at = ⊥
-LacksGrammar (FileRequest task g) file_at = file_at g ≡ Missing
-LacksGrammar (FilesRequest task g t) file_at = file_at g ≡ Missing
-LacksGrammar (CoverRequest start memo steps g texts) file_at = file_at g ≡ Missing
+LacksGrammar (FileRequest task g) file_at = IsMissing (file_at g)
+LacksGrammar (FilesRequest task g t) file_at = IsMissing (file_at g)
+LacksGrammar (CoverRequest start memo steps needed g texts) file_at = IsMissing (file_at g)
 LacksGrammar (ExplainRequest question printing) file_at = ⊥
 LacksGrammar (TestRequest question) file_at = ⊥
 
@@ -81,8 +89,8 @@ abbrev pub LacksText : ToolRequest → (file_at : List ℕ → NamedFile) → Ty
 LacksText InputRequest file_at = ⊥
 LacksText (HelpRequest text) file_at = ⊥
 LacksText (FileRequest task g) file_at = ⊥
-LacksText (FilesRequest task g t) file_at = file_at t ≡ Missing
-LacksText (CoverRequest start memo steps g texts) file_at = ⊥
+LacksText (FilesRequest task g t) file_at = IsMissing (file_at t)
+LacksText (CoverRequest start memo steps needed g texts) file_at = ⊥
 LacksText (ExplainRequest question printing) file_at = ⊥
 LacksText (TestRequest question) file_at = ⊥
 
@@ -92,7 +100,7 @@ HasReadableFiles InputRequest file_at = Unit {0}
 HasReadableFiles (HelpRequest text) file_at = Unit {0}
 HasReadableFiles (FileRequest task g) file_at = is_readable (file_at g) ≡ true
 HasReadableFiles (FilesRequest task g t) file_at = (is_readable (file_at g) ≡ true) × (is_readable (file_at t) ≡ true)
-HasReadableFiles (CoverRequest start memo steps g texts) file_at =
+HasReadableFiles (CoverRequest start memo steps needed g texts) file_at =
     (is_readable (file_at g) ≡ true) × All (λ text. is_readable (file_at text) ≡ true) texts
 HasReadableFiles (ExplainRequest question printing) file_at = ⊥
 HasReadableFiles (TestRequest question) file_at = ⊥
@@ -105,7 +113,7 @@ IsExplainRequest InputRequest = ⊥
 IsExplainRequest (HelpRequest text) = ⊥
 IsExplainRequest (FileRequest task g) = ⊥
 IsExplainRequest (FilesRequest task g t) = ⊥
-IsExplainRequest (CoverRequest start memo steps g texts) = ⊥
+IsExplainRequest (CoverRequest start memo steps needed g texts) = ⊥
 IsExplainRequest (ExplainRequest question printing) = Unit {0}
 IsExplainRequest (TestRequest question) = ⊥
 
@@ -115,7 +123,7 @@ IsTestRequest InputRequest = ⊥
 IsTestRequest (HelpRequest text) = ⊥
 IsTestRequest (FileRequest task g) = ⊥
 IsTestRequest (FilesRequest task g t) = ⊥
-IsTestRequest (CoverRequest start memo steps g texts) = ⊥
+IsTestRequest (CoverRequest start memo steps needed g texts) = ⊥
 IsTestRequest (ExplainRequest question printing) = ⊥
 IsTestRequest (TestRequest question) = Unit {0}
 
@@ -125,6 +133,6 @@ ReadsInput InputRequest = Unit {0}
 ReadsInput (HelpRequest text) = ⊥
 ReadsInput (FileRequest task g) = ⊥
 ReadsInput (FilesRequest task g t) = ⊥
-ReadsInput (CoverRequest start memo steps g texts) = ⊥
+ReadsInput (CoverRequest start memo steps needed g texts) = ⊥
 ReadsInput (ExplainRequest question printing) = IsInput question.list
 ReadsInput (TestRequest question) = ⊥

@@ -1,5 +1,6 @@
 -- The tasks of the tool.
 use Rattle.std.specs.Prelude.{◌≡◌, ℕ, Bool, false, IsSome, List, Option, None, Some}
+use Rattle.peg_coverage.specs.declared.text_match.RequiredMatch.{RequiredMatch}
 use Rattle.peg_io.specs.NamedFile.{NamedFile}
 use Rattle.peg_semantics.specs.Rules.{Rule}
 use Rattle.peg_lint.specs.declared.warning.Selection.{Selection}
@@ -20,7 +21,8 @@ pub data ToolTask : Type 0 where
   CodeTask : ToolTask
   LintTask : (start : Option (List ℕ)) → (selection : Selection) → ToolTask
   ProfileTask : (start : Option (List ℕ)) → (memo : ℕ) → (steps : Option ℕ) → ToolTask
-  CoverTask : (files : List NamedFile) → (start : Option (List ℕ)) → (memo : ℕ) → (steps : Option ℕ) → ToolTask
+  CoverTask : (files : List NamedFile) → (start : Option (List ℕ)) → (memo : ℕ) → (steps : Option ℕ)
+      → (needed : RequiredMatch) → ToolTask
   ParseTask : (start : Option (List ℕ)) → (memo : ℕ) → (steps : Option ℕ) → (all : Bool) → (form : TreeForm)
       → (nodes : PrintedNodes) → (with_bytes : Bool) → ToolTask
 
@@ -39,7 +41,7 @@ Checks CheckTask = Unit {0}
 Checks CodeTask = Unit {0}
 Checks (LintTask start selection) = Unit {0}
 Checks (ProfileTask start memo steps) = Unit {0}
-Checks (CoverTask files start memo steps) = Unit {0}
+Checks (CoverTask files start memo steps needed) = Unit {0}
 Checks (ParseTask start memo steps all form nodes with_bytes) = Unit {0}
 
 -- Whether a task has a text: whether it parses one. The texts in files of a task are a part of it.
@@ -49,7 +51,7 @@ HasText CheckTask = ⊥
 HasText CodeTask = ⊥
 HasText (LintTask start selection) = ⊥
 HasText (ProfileTask start memo steps) = Unit {0}
-HasText (CoverTask files start memo steps) = ⊥
+HasText (CoverTask files start memo steps needed) = ⊥
 HasText (ParseTask start memo steps all form nodes with_bytes) = Unit {0}
 
 -- The text of a task on a grammar file: the unread bytes of its reader. Any text will do for a task that reads none
@@ -61,7 +63,7 @@ IsTextOf CodeTask file left text = Unit {0}
 IsTextOf (LintTask start selection) file left text = Unit {0}
 IsTextOf (ProfileTask start memo steps) file left text =
     (rules : List Rule) → Accepts file rules → left ≡ Some text
-IsTextOf (CoverTask files start memo steps) file left text = Unit {0}
+IsTextOf (CoverTask files start memo steps needed) file left text = Unit {0}
 IsTextOf (ParseTask start memo steps all form nodes with_bytes) file left text =
     (rules : List Rule) → Accepts file rules → left ≡ Some text
 

@@ -1,17 +1,18 @@
 //! What texts use of a grammar: the line, and the lines for standard error.
 ghost use Rattle.std.specs.Prelude.{◌≡◌, ◌≢◌, ◌↔◌, ◌<◌, ◌≤◌, ◌++◌, ◌∷◌, ℕ, All, List, [], IfErr, IfOk, IfSome, IsErrOf, false, length};
 ghost use Rattle.std.specs.Prelude.{OnOk, codes, map, string_bytes, true};
-ghost use Rattle.peg_bytes.specs.Extent.{extent};
 ghost use Rattle.peg_bytes.specs.Place.{max_offset};
 ghost use Rattle.peg_coverage.specs.CoverageParser.{IsCoverageParserOf};
+ghost use Rattle.peg_coverage.specs.Unused.{alternative_use, rule_use};
+ghost use Rattle.peg_coverage.specs.declared.coverage.UnusedRule.{UnusedRule};
 ghost use Rattle.peg_coverage_files.specs.NamedTexts.{files_named};
 ghost use Rattle.peg_grammar.specs.GrammarRules.{rules_in};
-ghost use Rattle.peg_json.specs.CoverageText.{reference_at};
+ghost use Rattle.peg_json.specs.CoverageText.{named_use};
 ghost use Rattle.peg_json.specs.Lines.{IsReply, line_bytes};
 ghost use Rattle.peg_json.specs.Reply.{Covered, NoCoverage};
 ghost use Rattle.peg_json.specs.Statuses.{status_code};
 ghost use Rattle.peg_messages.specs.FileNames.{shown_name};
-ghost use Rattle.peg_parser.specs.Parser.{start_named};
+ghost use Rattle.peg_parser.specs.Parser.{parser_rules, start_named};
 ghost use Rattle.peg_tool.specs.CoverageOutcome.{stopped_line, stopped_lines};
 ghost use Rattle.peg_tool.specs.CoverageReplies.{CoversTo};
 ghost use Rattle.peg_tool.specs.CoverageWritten.{IsReplyOfKind, IsTextFault, WritesCoverageReply};
@@ -23,7 +24,7 @@ use crate::fault::{RequestFault, Stream};
 use crate::program::ProgramFault;
 use crate::report::Findings;
 use crate::write::write_line;
-use peg_coverage::{Coverage, CoverageFault, CoverageParser};
+use peg_coverage::{Coverage, CoverageFault, CoverageParser, RequiredMatch};
 use peg_coverage_files::{CoveringFault, cover_files};
 use peg_grammar::Grammar;
 use peg_io::{Opener, ReadFault, Sink, Source, read_up_to};
@@ -53,11 +54,12 @@ pub(crate) fn coverage_reply<'a, O: Opener, G: Source>(
     g: &'a str,
     names: &'a [String],
     options: &ParseOptions<'_>,
+    needed: RequiredMatch,
 ) -> Result<CoverageReply, RequestFault<'a>>
     requires { G.failed grammar.old ≡ false }
     ensures answer { IfSome (G.left grammar.old) (λ file. (text : List ℕ) → IfOk result (IsReplyOfKind
         (RepliesTo file text (CoverTask (files_named (O.file_at files.now) names.now) (start_named options.now)
-        options.now.memo options.now.steps)) (map string_bytes names.now) file)) }
+        options.now.memo options.now.steps needed)) (map string_bytes names.now) file)) }
     ensures fault { G.failed grammar.new ≡ false
         → IfErr result (IsTextFault (O.file_at files.now) (map string_bytes names.now)) }
     ensures named { IfErr result
@@ -65,7 +67,7 @@ pub(crate) fn coverage_reply<'a, O: Opener, G: Source>(
     ensures never { G.never_fails grammar.old ≡ true → G.failed grammar.new ≡ false }
 {
     match read_up_to(alloc, grammar, MAX_FILE_BYTES + 1) {
-        Ok(file) => cover_by_file(alloc, files, &file, names, options),
+        Ok(file) => cover_by_file(alloc, files, &file, names, options, needed),
         Err(ReadFault::Device) => Err(RequestFault::at(Stream::File(g), grammar.fault_kind())),
         Err(ReadFault::Memory) => Err(RequestFault::Memory),
     }
@@ -78,15 +80,16 @@ fn cover_by_file<'a, O: Opener>(
     file: &[u8],
     names: &'a [String],
     options: &ParseOptions<'_>,
+    needed: RequiredMatch,
 ) -> Result<CoverageReply, RequestFault<'a>>
     requires { length file.now ≤ max_offset }
     ensures answer { (text : List ℕ) → IfOk result (IsReplyOfKind
         (RepliesTo file.now text (CoverTask (files_named (O.file_at files.now) names.now) (start_named options.now)
-        options.now.memo options.now.steps)) (map string_bytes names.now) file.now) }
+        options.now.memo options.now.steps needed)) (map string_bytes names.now) file.now) }
     ensures fault { IfErr result (IsTextFault (O.file_at files.now) (map string_bytes names.now)) }
 {
     match Parser::from_file(alloc, file) {
-        Ok(parser) => cover_by_grammar(alloc, files, file, parser.grammar(), names, options),
+        Ok(parser) => cover_by_grammar(alloc, files, file, &parser, names, options, needed),
         Err(Refusal::Memory) => Err(RequestFault::Memory),
         Err(refusal) => {
             let line = refused_line(alloc, file, &refusal)?;
@@ -111,17 +114,23 @@ fn cover_by_grammar<'a, O: Opener>(
     alloc: Global,
     files: &O,
     file: &[u8],
-    grammar: &Grammar,
+    parser: &Parser,
     names: &'a [String],
     options: &ParseOptions<'_>,
+    needed: RequiredMatch,
 ) -> Result<CoverageReply, RequestFault<'a>>
     ensures answer { IfOk result (IsReplyOfKind
-        (CoversTo (rules_in grammar.now) (files_named (O.file_at files.now) names.now) (start_named options.now)
-        options.now.memo options.now.steps) (map string_bytes names.now) file.now) }
+        (CoversTo (parser_rules parser.now) (files_named (O.file_at files.now) names.now) (start_named options.now)
+        options.now.memo options.now.steps needed) (map string_bytes names.now) file.now) }
     ensures fault { IfErr result (IsTextFault (O.file_at files.now) (map string_bytes names.now)) }
 {
-    match CoverageParser::new(alloc, grammar) {
-        Ok(parser) => cover_by_parser(alloc, files, file, grammar, &parser, names, options),
+    match CoverageParser::new(alloc, parser) {
+        Ok(coverage) => {
+            let grammar = parser.grammar();
+            cover_by_parser(
+                alloc, files, file, grammar, &coverage, names, options, needed,
+            )
+        }
         Err(why) => no_coverage(alloc, why),
     }
 }
@@ -150,14 +159,15 @@ fn cover_by_parser<'a, O: Opener>(
     parser: &CoverageParser,
     names: &'a [String],
     options: &ParseOptions<'_>,
+    needed: RequiredMatch,
 ) -> Result<CoverageReply, RequestFault<'a>>
     requires { IsCoverageParserOf (rules_in grammar.now) parser.now }
     ensures answer { IfOk result (IsReplyOfKind
         (CoversTo (rules_in grammar.now) (files_named (O.file_at files.now) names.now) (start_named options.now)
-        options.now.memo options.now.steps) (map string_bytes names.now) file.now) }
+        options.now.memo options.now.steps needed) (map string_bytes names.now) file.now) }
     ensures fault { IfErr result (IsTextFault (O.file_at files.now) (map string_bytes names.now)) }
 {
-    match cover_files(alloc, files, parser, names, options) {
+    match cover_files(alloc, files, parser, names, options, needed) {
         Ok(coverage) => Ok(covered_reply(alloc, file, grammar, names, &coverage)?),
         // A grammar has a first rule, so a start that is missing was given by name.
         Err(CoveringFault::NoSuchStart) => {
@@ -184,11 +194,12 @@ fn covered_reply(
     names: &[String],
     coverage: &Coverage,
 ) -> Result<CoverageReply, AllocError>
-    requires rules { All (λ rule. rule < length (rules_in grammar.now)) coverage.now.unused_rules.items }
+    requires rules { All (λ (unused : UnusedRule). unused.rule < length (rules_in grammar.now))
+        coverage.now.unused_rules.items }
     requires texts { All (λ number. number < length names.now) coverage.now.stopped.items }
     ensures { let reply = Covered coverage.now.texts coverage.now.matched coverage.now.stopped.items
-        (map (reference_at (rules_in grammar.now)) coverage.now.unused_rules.items)
-        (map extent coverage.now.unused_alternatives.items) in
+        (map (named_use (rules_in grammar.now)) (map rule_use coverage.now.unused_rules.items))
+        (map alternative_use coverage.now.unused_alternatives.items) in
         IfOk result (IsReplyOfKind (λ other. other ≡ reply) (map string_bytes names.now) file.now) }
 {
     let line = coverage_line(alloc, file, grammar, coverage)?;

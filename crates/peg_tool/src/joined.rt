@@ -76,7 +76,7 @@ fn line_for(alloc: Global, input: &[u8]) -> Result<Line, AllocError>
         with_bytes: false,
     };
     match load(alloc, file)? {
-        Loaded::Accepted(parser) => parse_line(alloc, &parser, text, &options, printing),
+        Loaded::Accepted(parser) => parse_line(alloc, parser, text, &options, printing),
         Loaded::Refused(line) => Ok(line),
     }
 }

@@ -15,7 +15,6 @@ mod profiling;
 mod program;
 mod report;
 mod request;
-mod selection;
 mod testing;
 mod tool;
 mod tree_printing;

@@ -1,45 +1,101 @@
 //! The line of a parse.
-ghost use Rattle.std.specs.Prelude.{ℕ, ◌<◌, ◌≤◌, List, IfOk, length, string_bytes};
-ghost use Rattle.peg_parser.specs.Cause.{NoSuchStart, TextTooLong};
-ghost use Rattle.peg_parser.specs.Parser.{parser_rules, start_named};
+ghost use Rattle.std.specs.Prelude.{◌≡◌, ℕ, ◌<◌, ◌≤◌, List, IfOk, length};
+ghost use Rattle.peg_code.specs.ShownRules.{is_shown_by};
+ghost use Rattle.peg_grammar.specs.GrammarRules.{rules_in};
 ghost use Rattle.peg_grammar.specs.Limits.{max_text_bytes};
 ghost use Rattle.peg_json.specs.Lines.{IsLineOf, IsReply, line_bytes};
-ghost use Rattle.peg_json.specs.Parses.{ParsesToAsked, PrintsOutcome, PrintsOutcomeAsked, selected_outcome};
+ghost use Rattle.peg_json.specs.Parses.{ParsesToAsked, PrintsOutcomeAsked};
 ghost use Rattle.peg_json.specs.Reply.{Refused};
 ghost use Rattle.peg_json.specs.Statuses.{status_code};
+ghost use Rattle.peg_parser.specs.Cause.{NoSuchStart, TextTooLong};
+ghost use Rattle.peg_parser.specs.Engine.{rules_shown, shown_parser_rules};
 ghost use Rattle.peg_parser.specs.Fits.{Fits};
+ghost use Rattle.peg_parser.specs.Parser.{parser_rules, start_named};
 ghost use Rattle.peg_tool.specs.Commands.{nodes_asked};
-ghost use Rattle.peg_tool.specs.PrintedNodes.{shown_by};
+ghost use Rattle.peg_tool.specs.PrintedNodes.{ShowsPrinted, shown_by};
 
 use crate::nodes::{Nodes, listed_rules, other_rules};
-use crate::selection::select_nodes;
 use crate::tree_printing::TreePrinting;
-use peg_grammar::MAX_TEXT_BYTES;
+use peg_grammar::{Grammar, MAX_TEXT_BYTES};
 use peg_json::{
     Line, TreeForm, answer_line, answer_line_with_text, long_text_line, no_start_line,
-    shown_rows_line, step_limit_line,
+    step_limit_line,
 };
-use peg_parser::{Answer, ParseFault, ParseOptions, Parser};
+use peg_parser::{Answer, ParseFault, ParseOptions, Parser, ShownParser};
+use peg_tree::RuleSet;
 use peg_tree::laws::{a_selected_tree_has_no_other_rules, selecting_all_rules_changes_nothing};
 use std::alloc::{AllocError, Global};
 
-/// Returns the line of a parse of a text, with these nodes of its tree. A text that is too long is reported before a
-/// start that no rule has.
+/// Returns the line of a parse of a text, with these nodes of its tree. No other nodes are made. A text that is too
+/// long is reported before a start that no rule has.
 pub(crate) fn parse_line(
     alloc: Global,
-    parser: &Parser,
+    parser: Parser,
     text: &[u8],
     options: &ParseOptions<'_>,
     printing: TreePrinting<'_>,
 ) -> Result<Line, AllocError>
     ensures { (file : List ℕ) → IfOk result (λ line. IsLineOf file
-        (ParsesToAsked (parser_rules parser.now) text.now (start_named options.now) options.now.memo options.now.steps
-        printing.entry.all printing.entry.form (shown_by (parser_rules parser.now) (nodes_asked printing.entry.nodes))
+        (ParsesToAsked (parser_rules parser) text.now (start_named options.now) options.now.memo options.now.steps
+        printing.entry.all printing.entry.form (shown_by (parser_rules parser) (nodes_asked printing.entry.nodes))
         printing.entry.with_bytes)
         (line_bytes line) (status_code line.status)) }
 {
+    let set = printed_rules(alloc, parser.grammar(), printing)?;
+    shown_line(alloc, parser.showing(set), text, options, printing)
+}
+
+// The set of the rules whose nodes are printed, or `None` for all. Without a printed tree it is empty.
+fn printed_rules(
+    alloc: Global,
+    grammar: &Grammar,
+    printing: TreePrinting<'_>,
+) -> Result<Option<RuleSet>, AllocError>
+    ensures { IfOk result (λ set. ShowsPrinted (rules_in grammar.now) set printing.entry.form
+        (nodes_asked printing.entry.nodes)) }
+{
+    match printing.form {
+        TreeForm::NoTree => Ok(Some(RuleSet::none(alloc, grammar.rules())?)),
+        TreeForm::Nested | TreeForm::Rows => asked_rules(alloc, grammar, printing.nodes),
+    }
+}
+
+// The set of the rules of these nodes, or `None` for all.
+fn asked_rules(
+    alloc: Global,
+    grammar: &Grammar,
+    nodes: Nodes<'_>,
+) -> Result<Option<RuleSet>, AllocError>
+    ensures { IfOk result (λ set. (rule : ℕ) → rule < length (rules_in grammar.now)
+        → is_shown_by set rule ≡ shown_by (rules_in grammar.now) (nodes_asked nodes.entry) rule) }
+{
+    match nodes {
+        Nodes::All => Ok(None),
+        Nodes::Show(list) => Ok(Some(listed_rules(alloc, grammar, list)?)),
+        Nodes::Hide(list) => Ok(Some(other_rules(alloc, grammar, list)?)),
+    }
+}
+
+// The line of a parse by a parser that shows the nodes to print.
+fn shown_line(
+    alloc: Global,
+    parser: ShownParser,
+    text: &[u8],
+    options: &ParseOptions<'_>,
+    printing: TreePrinting<'_>,
+) -> Result<Line, AllocError>
+    requires { ShowsPrinted (shown_parser_rules parser) (rules_shown parser) printing.form
+        (nodes_asked printing.nodes) }
+    ensures { (file : List ℕ) → IfOk result (λ line. IsLineOf file
+        (ParsesToAsked (shown_parser_rules parser) text.now (start_named options.now) options.now.memo
+        options.now.steps printing.entry.all printing.entry.form
+        (shown_by (shown_parser_rules parser) (nodes_asked printing.entry.nodes)) printing.entry.with_bytes)
+        (line_bytes line) (status_code line.status)) }
+{
+    selecting_all_rules_changes_nothing();
+    a_selected_tree_has_no_other_rules();
     match parser.parse(alloc, text, options) {
-        Ok(answer) => nodes_line(alloc, parser, answer, text, printing),
+        Ok(answer) => tree_line(alloc, &parser.into_parser(), answer, text, printing),
         // A grammar has a first rule, so a start that is missing was given by name.
         Err(ParseFault::NoSuchStart) => no_start(alloc, text, options.start.unwrap_or("")),
         Err(ParseFault::TextTooLong) => long_text_line(alloc),
@@ -59,72 +115,6 @@ pub(crate) fn no_start(alloc: Global, text: &[u8], name: &str) -> Result<Line, A
         return long_text_line(alloc);
     }
     no_start_line(alloc, name)
-}
-
-// The line of an answer with these nodes of its tree, and with the bytes of the text if they are asked for.
-fn nodes_line(
-    alloc: Global,
-    parser: &Parser,
-    answer: Answer,
-    text: &[u8],
-    printing: TreePrinting<'_>,
-) -> Result<Line, AllocError>
-    requires fits { Fits (parser_rules parser.now) answer.outcome }
-    requires short { length text.now ≤ max_text_bytes }
-    ensures { (file : List ℕ) → IfOk result (λ line. IsLineOf file (PrintsOutcomeAsked (parser_rules parser.now)
-        (selected_outcome (shown_by (parser_rules parser.now) (nodes_asked printing.entry.nodes)) answer.outcome)
-        text.now printing.entry.all printing.entry.form printing.entry.with_bytes)
-        (line_bytes line) (status_code line.status)) }
-{
-    let TreePrinting {
-        all,
-        form,
-        nodes,
-        with_bytes,
-    } = printing;
-    match form {
-        // No tree is printed, so none is made.
-        TreeForm::NoTree => answer_line(alloc, parser, answer, text.len() as u32, all, form),
-        TreeForm::Rows if !with_bytes => {
-            rows_line(alloc, parser, answer, text.len() as u32, printing)
-        }
-        TreeForm::Nested | TreeForm::Rows => {
-            a_selected_tree_has_no_other_rules();
-            let printed = select_nodes(alloc, parser.grammar(), answer, nodes)?;
-            tree_line(alloc, parser, printed, text, printing)
-        }
-    }
-}
-
-// The line of an answer with these nodes of its tree as a list. There is no second tree.
-fn rows_line(
-    alloc: Global,
-    parser: &Parser,
-    answer: Answer,
-    text_len: u32,
-    printing: TreePrinting<'_>,
-) -> Result<Line, AllocError>
-    requires { Fits (parser_rules parser.now) answer.outcome }
-    ensures { (file : List ℕ) → IfOk result (λ line. IsLineOf file (PrintsOutcome (parser_rules parser.now)
-        (selected_outcome (shown_by (parser_rules parser.now) (nodes_asked printing.entry.nodes)) answer.outcome)
-        text_len printing.entry.all TreeForm.Rows)
-        (line_bytes line) (status_code line.status)) }
-{
-    let all = printing.all;
-    match printing.nodes {
-        Nodes::All => {
-            selecting_all_rules_changes_nothing();
-            answer_line(alloc, parser, answer, text_len, all, TreeForm::Rows)
-        }
-        Nodes::Show(list) => {
-            let shown = listed_rules(alloc, parser.grammar(), list)?;
-            shown_rows_line(alloc, parser, answer, shown, text_len, all)
-        }
-        Nodes::Hide(list) => {
-            let shown = other_rules(alloc, parser.grammar(), list)?;
-            shown_rows_line(alloc, parser, answer, shown, text_len, all)
-        }
-    }
 }
 
 // The line of an answer with its tree, and with the bytes of the text if they are asked for.

@@ -5,7 +5,8 @@ ghost use Rattle.peg_grammar.specs.Limits.{max_text_bytes};
 ghost use Rattle.peg_semantics.specs.Rules.{Rule};
 ghost use Rattle.peg_io.specs.Transfer.{ConsumesAtMost};
 ghost use Rattle.peg_parser.specs.Accepts.{Accepts};
-ghost use Rattle.peg_parser.specs.Parser.{parser_rules, start_named};
+ghost use Rattle.peg_parser.specs.Engine.{shown_parser_rules};
+ghost use Rattle.peg_parser.specs.Parser.{start_named};
 ghost use Rattle.peg_json.specs.Lines.{IsLineOf, line_bytes};
 ghost use Rattle.peg_json.specs.ProfileReplies.{ProfilesTo};
 ghost use Rattle.peg_json.specs.Statuses.{status_code};
@@ -17,7 +18,7 @@ use crate::parse::no_start;
 use peg_grammar::MAX_TEXT_BYTES;
 use peg_io::{ReadFault, Source, read_up_to};
 use peg_json::{Line, long_text_line, profile_line};
-use peg_parser::{ParseFault, ParseOptions, Parser};
+use peg_parser::{ParseFault, ParseOptions, ShownParser};
 use peg_profile::Profile;
 use std::alloc::{AllocError, Global};
 
@@ -41,7 +42,10 @@ pub(crate) fn profile_reply<T: Source>(
     ensures never { T.never_fails text.old ≡ true → T.failed text.new ≡ false }
 {
     match load(alloc, file)? {
-        Loaded::Accepted(parser) => read_and_profile(alloc, &parser, text, options),
+        Loaded::Accepted(parser) => {
+            let shown = parser.without_nodes(alloc)?;
+            read_and_profile(alloc, &shown, text, options)
+        }
         Loaded::Refused(line) => Ok(line),
     }
 }
@@ -49,12 +53,12 @@ pub(crate) fn profile_reply<T: Source>(
 // Reads a text and returns the line of the profile of its parse.
 fn read_and_profile<T: Source>(
     alloc: Global,
-    parser: &Parser,
+    parser: &ShownParser,
     text: &mut T,
     options: &ParseOptions<'_>,
 ) -> Result<Line, ReadFault>
     requires { T.failed text.old ≡ false }
-    ensures answer { (file : List ℕ) → Accepts file (parser_rules parser.now) → IfOk result (λ line.
+    ensures answer { (file : List ℕ) → Accepts file (shown_parser_rules parser.now) → IfOk result (λ line.
         IfSome (T.left text.old) (λ bytes. IsPrinted (ProfileTask (start_named options.now) options.now.memo
         options.now.steps) file bytes (line_bytes line) (status_code line.status))) }
     ensures held { ConsumesAtMost (T.left text.old) (T.left text.new) (max_text_bytes + 1) }
@@ -68,12 +72,13 @@ fn read_and_profile<T: Source>(
 // The line of the profile of a parse of this text. A text that is too long is reported before a start that no rule has.
 fn line_of_text(
     alloc: Global,
-    parser: &Parser,
+    parser: &ShownParser,
     text: &[u8],
     options: &ParseOptions<'_>,
 ) -> Result<Line, AllocError>
     ensures { (file : List ℕ) → IfOk result (λ line. IsLineOf file
-        (ProfilesTo (parser_rules parser.now) text.now (start_named options.now) options.now.memo options.now.steps)
+        (ProfilesTo (shown_parser_rules parser.now) text.now (start_named options.now) options.now.memo
+        options.now.steps)
         (line_bytes line) (status_code line.status)) }
 {
     match Profile::of_text(alloc, parser, text, options) {

@@ -3,7 +3,7 @@ ghost use Rattle.std.specs.Prelude.{◌≡◌, ◌⊎◌, ◌↔◌, ◌++◌, �
 ghost use Rattle.std.specs.Prelude.{None, is_err, map, string_bytes};
 ghost use Rattle.std.specs.Io.KnownBytes.{Keeps};
 ghost use Rattle.std.specs.Result.{result_err};
-ghost use Rattle.peg_io.specs.NamedFile.{Missing, bytes_of, is_readable};
+ghost use Rattle.peg_io.specs.NamedFile.{IsMissing, bytes_of, is_readable};
 ghost use Rattle.peg_messages.specs.FileNames.{shown_name};
 ghost use Rattle.peg_parser.specs.Parser.{start_named};
 ghost use Rattle.peg_tool.specs.Commands.{task_of};
@@ -26,6 +26,7 @@ use crate::testing::test;
 use crate::write::write_request_reply;
 use crate::{joined, tool};
 use peg_cli::Words;
+use peg_coverage::RequiredMatch;
 use peg_io::{Device, Opener, Sink, Source, write_all_bytes};
 use peg_json::Status;
 use peg_parser::ParseOptions;
@@ -144,9 +145,12 @@ pub(crate) fn run_request<'a, O: Opener, I: Source, W: Sink>(
         Request::OnFiles { g, t, command } => {
             Ok(Report::Done(on_files(alloc, files, output, g, t, &command)?))
         }
-        Request::Cover { g, texts, options } => {
-            Ok(Report::Found(on_texts(alloc, files, output, g, texts, &options)?))
-        }
+        Request::Cover {
+            g,
+            texts,
+            options,
+            needed,
+        } => { Ok(Report::Found(on_texts(alloc, files, output, g, texts, &options, needed)?)) }
         Request::Explain { query, printing } => {
             Ok(Report::Found(explain(alloc, files, input, output, &query, printing)?))
         }
@@ -204,7 +208,7 @@ fn on_file<'a, O: Opener, W: Sink>(
     ensures leads { IfSome (bytes_of (O.file_at files.now g.now)) (λ file. (text : List ℕ)
         → WritesOrFails (IsPrinted (task_of command.now) file text) (W.written output.old)
         (W.written output.new) (plain_result result)) }
-    ensures no_grammar { O.file_at files.now g.now ≡ Missing
+    ensures no_grammar { IsMissing (O.file_at files.now g.now)
         → IsErrOf (plain_result result) ProgramFault.File × (output.new ≡ output.old) }
     ensures device_fault { is_readable (O.file_at files.now g.now) ≡ true
         → (IsErrOf (plain_result result) ProgramFault.File ↔ (W.failed output.new ≡ true)) }
@@ -237,9 +241,9 @@ fn on_files<'a, O: Opener, W: Sink>(
     ensures leads { IfSome (bytes_of (O.file_at files.now g.now)) (λ file. IfSome (bytes_of (O.file_at files.now t.now))
         (λ text. WritesOrFails (IsPrinted (task_of command.now) file text) (W.written output.old)
         (W.written output.new) (plain_result result))) }
-    ensures no_grammar { O.file_at files.now g.now ≡ Missing
+    ensures no_grammar { IsMissing (O.file_at files.now g.now)
         → IsErrOf (plain_result result) ProgramFault.File × (output.new ≡ output.old) }
-    ensures no_text { O.file_at files.now t.now ≡ Missing
+    ensures no_text { IsMissing (O.file_at files.now t.now)
         → (is_err (plain_result result) ≡ true) × (output.new ≡ output.old) }
     ensures device_fault { is_readable (O.file_at files.now g.now) ≡ true
         → is_readable (O.file_at files.now t.now) ≡ true
@@ -248,7 +252,7 @@ fn on_files<'a, O: Opener, W: Sink>(
     ensures memory { IsErrOf (plain_result result) ProgramFault.Memory
         → Keeps (W.written output.old) (W.written output.new) }
     ensures output { W.failed output.new ≡ true → IfErr result (IsFaultAt standard_output (W.fault_kind output.new)) }
-    ensures missing { O.file_at files.now g.now ≡ Missing → IfErr result (IsFaultAt (shown_name g.now) None) }
+    ensures missing { IsMissing (O.file_at files.now g.now) → IfErr result (IsFaultAt (shown_name g.now) None) }
     ensures of_text { W.failed output.new ≡ false → is_readable (O.file_at files.now g.now) ≡ true
         → IfErr result (IsFaultAt (shown_name t.now) None) }
     ensures of_grammar { W.failed output.new ≡ false → is_readable (O.file_at files.now t.now) ≡ true
@@ -279,12 +283,13 @@ fn on_texts<'a, O: Opener, W: Sink>(
     g: &'a str,
     texts: &'a [String],
     options: &ParseOptions<'_>,
+    needed: RequiredMatch,
 ) -> Result<Findings, RequestFault<'a>>
     requires { W.failed output.old ≡ false }
-    ensures leads { CoverageOutcome (start_named options.now) options.now.memo options.now.steps g.now
+    ensures leads { CoverageOutcome (start_named options.now) options.now.memo options.now.steps needed g.now
         (map string_bytes texts.now) (O.file_at files.now) (W.written output.old) (W.written output.new)
         (plain_result result) }
-    ensures no_grammar { O.file_at files.now g.now ≡ Missing
+    ensures no_grammar { IsMissing (O.file_at files.now g.now)
         → IsErrOf (plain_result result) ProgramFault.File × (output.new ≡ output.old) }
     ensures device_fault { is_readable (O.file_at files.now g.now) ≡ true
         → All (λ text. is_readable (O.file_at files.now text) ≡ true) (map string_bytes texts.now)
@@ -293,7 +298,7 @@ fn on_texts<'a, O: Opener, W: Sink>(
     ensures memory { IsErrOf (plain_result result) ProgramFault.Memory
         → Keeps (W.written output.old) (W.written output.new) }
     ensures output { W.failed output.new ≡ true → IfErr result (IsFaultAt standard_output (W.fault_kind output.new)) }
-    ensures missing { O.file_at files.now g.now ≡ Missing → IfErr result (IsFaultAt (shown_name g.now) None) }
+    ensures missing { IsMissing (O.file_at files.now g.now) → IfErr result (IsFaultAt (shown_name g.now) None) }
     ensures named { IfErr result
         (IsFaultAmong (shown_name g.now ∷ map shown_name (map string_bytes texts.now) ++ standard_output ∷ [])) }
 {
@@ -301,7 +306,7 @@ fn on_texts<'a, O: Opener, W: Sink>(
         Ok(file) => file,
         Err(fault) => return Err(RequestFault::of_file(g, fault)),
     };
-    match coverage_reply(alloc, files, &mut grammar, g, texts, options) {
+    match coverage_reply(alloc, files, &mut grammar, g, texts, options, needed) {
         Ok(reply) => write_coverage(output, reply),
         Err(fault) => Err(fault),
     }

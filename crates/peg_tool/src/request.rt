@@ -4,12 +4,13 @@ ghost use Rattle.peg_explain.specs.Styles.{style_of};
 ghost use Rattle.peg_lint.specs.FileWarnings.{selection_of};
 ghost use Rattle.peg_parser.specs.Parser.{start_named};
 ghost use Rattle.peg_tool.specs.Commands.{IsParseWords, request_of, task_of};
-ghost use Rattle.peg_tool.specs.Requests.{FileRequest, IsExplainRequest, TestRequest, requested};
+ghost use Rattle.peg_tool.specs.Requests.{CoverRequest, FileRequest, IsExplainRequest, TestRequest, needed_of, requested};
 ghost use Rattle.peg_tool.specs.Task.{LintTask};
 
 use crate::command::Command;
 use crate::nodes::Nodes;
 use peg_cli::Words;
+use peg_coverage::RequiredMatch;
 use peg_explain_files::{ItemStyle, NameEnd, Printing, Query};
 use peg_lint::Selection;
 use peg_parser::ParseOptions;
@@ -40,6 +41,7 @@ pub enum Request<'a> {
         g: &'a str,
         texts: &'a [String],
         options: ParseOptions<'a>,
+        needed: RequiredMatch,
     },
     /// Explains where texts don't match a grammar file.
     Explain {
@@ -82,10 +84,11 @@ impl<'a> Request<'a> {
                 start,
                 memo,
                 steps,
+                prefix,
             } => {
                 let (start, memo, steps) = (start.as_deref(), *memo, *steps);
                 let options = ParseOptions { start, memo, steps };
-                Request::Cover { g, texts, options }
+                request_coverage(g, texts, options, *prefix)
             }
             Words::Explain { .. } => request_explanation(words),
             Words::Test {
@@ -118,6 +121,35 @@ fn request_lint<'a>(g: &'a str, start: Option<&'a str>, proved: bool) -> Request
 {
     let selection = Selection::from_proved(proved);
     request_on_file(g, Command::Lint { start, selection })
+}
+
+// Requests what the texts with these names use of a grammar file, where whole texts or prefixes have to match.
+fn request_coverage<'a>(
+    g: &'a str,
+    texts: &'a [String],
+    options: ParseOptions<'a>,
+    prefix: bool,
+) -> Request<'a>
+    ensures { request_of result ≡ CoverRequest (start_named options.entry) options.entry.memo options.entry.steps
+        (needed_of prefix) g.now (map string_bytes texts.now) }
+{
+    Request::Cover {
+        g,
+        texts,
+        options,
+        needed: required_match(prefix),
+    }
+}
+
+// How much of a text has to match.
+fn required_match(prefix: bool) -> RequiredMatch
+    ensures { result ≡ needed_of prefix }
+{
+    if prefix {
+        RequiredMatch::Prefix
+    } else {
+        RequiredMatch::Whole
+    }
 }
 
 // Requests an explanation.

@@ -10,7 +10,8 @@ ghost use Rattle.peg_parser.specs.Accepts.{Accepts};
 ghost use Rattle.peg_parser.specs.Parser.{parser_rules};
 ghost use Rattle.peg_grammar.specs.Limits.{max_text_bytes};
 ghost use Rattle.peg_json.specs.Statuses.{status_code};
-ghost use Rattle.peg_tool.specs.Commands.{parse_task, task_of};
+ghost use Rattle.peg_tool.specs.Commands.{nodes_asked, parse_task, task_of};
+ghost use Rattle.peg_tool.specs.PrintedNodes.{first_unknown};
 ghost use Rattle.peg_tool.specs.Replies.{IsPrinted};
 ghost use Rattle.peg_tool.specs.Task.{HasText, IsTextOf, ListsUnknown};
 ghost use Rattle.peg_tool.specs.Written.{Prints, PrintsInPart};
@@ -141,7 +142,7 @@ fn parse_reply<T: Source>(
     ensures never { T.never_fails text.old ≡ true → T.failed text.new ≡ false }
 {
     match load(alloc, file)? {
-        Loaded::Accepted(parser) => reply_by_parser(alloc, &parser, text, options, printing),
+        Loaded::Accepted(parser) => reply_by_parser(alloc, parser, text, options, printing),
         Loaded::Refused(line) => Ok(line),
     }
 }
@@ -149,26 +150,44 @@ fn parse_reply<T: Source>(
 // The line that reports an unknown name, or else reads a text and returns the line of its parse.
 fn reply_by_parser<T: Source>(
     alloc: Global,
-    parser: &Parser,
+    parser: Parser,
     text: &mut T,
     options: &ParseOptions<'_>,
     printing: TreePrinting<'_>,
 ) -> Result<Line, ReadFault>
     requires { T.failed text.old ≡ false }
-    ensures answer { (file : List ℕ) → Accepts file (parser_rules parser.now) → IfOk result (λ line.
-        IfSome (T.left text.old) (λ bytes. IsPrinted (parse_task options.now printing.entry) file bytes (line_bytes line)
-        (status_code line.status))) }
+    ensures answer { (file : List ℕ) → Accepts file (parser_rules parser) → IfOk result (λ line.
+        IfSome (T.left text.old) (λ bytes. IsPrinted (parse_task options.now printing.entry) file bytes
+        (line_bytes line) (status_code line.status))) }
     ensures held { ConsumesAtMost (T.left text.old) (T.left text.new) (max_text_bytes + 1) }
-    ensures unknown { ListsUnknown (parse_task options.now printing.entry) (parser_rules parser.now)
+    ensures unknown { ListsUnknown (parse_task options.now printing.entry) (parser_rules parser)
         → text.new ≡ text.old }
     ensures device { IsErrOf result ReadFault.Device ↔ (T.failed text.new ≡ true) }
     ensures never { T.never_fails text.old ≡ true → T.failed text.new ≡ false }
 {
     match printing.nodes.first_unknown(parser.grammar()) {
         Some(name) => Ok(no_rule_line(alloc, name)?),
-        None => {
-            let bytes = read_up_to(alloc, text, MAX_TEXT_BYTES + 1)?;
-            Ok(parse_line(alloc, parser, &bytes, options, printing)?)
-        }
+        None => read_and_parse(alloc, parser, text, options, printing),
     }
+}
+
+// Reads a text and returns the line of its parse. The names in lists of rules are known.
+fn read_and_parse<T: Source>(
+    alloc: Global,
+    parser: Parser,
+    text: &mut T,
+    options: &ParseOptions<'_>,
+    printing: TreePrinting<'_>,
+) -> Result<Line, ReadFault>
+    requires works { T.failed text.old ≡ false }
+    requires known { first_unknown (parser_rules parser) (nodes_asked printing.nodes) ≡ None }
+    ensures answer { (file : List ℕ) → Accepts file (parser_rules parser) → IfOk result (λ line.
+        IfSome (T.left text.old) (λ bytes. IsPrinted (parse_task options.now printing.entry) file bytes
+        (line_bytes line) (status_code line.status))) }
+    ensures held { ConsumesAtMost (T.left text.old) (T.left text.new) (max_text_bytes + 1) }
+    ensures device { IsErrOf result ReadFault.Device ↔ (T.failed text.new ≡ true) }
+    ensures never { T.never_fails text.old ≡ true → T.failed text.new ≡ false }
+{
+    let bytes = read_up_to(alloc, text, MAX_TEXT_BYTES + 1)?;
+    Ok(parse_line(alloc, parser, &bytes, options, printing)?)
 }

@@ -19,7 +19,7 @@ returns-in-Ok-clause-answer g c =
     let options = c.args.options.now in
     let names = map string_bytes c.args.names.now in
     let task = CoverTask (files_named (g.O.Opener.file_at c.args.files.now) c.args.names.now) (start_named options)
-    options.memo options.steps in
+    options.memo options.steps c.args.needed in
     let right : (text : List ℕ) → IfOk c.cover_by_file.result (IsReplyOfKind (RepliesTo held.items text task) names held.items) =
     λ text. subst (λ (l : List ℕ). IfOk c.cover_by_file.result (IsReplyOfKind (RepliesTo l text task) names l))
     c.deref.ensures.value (c.cover_by_file.ensures.answer text) in

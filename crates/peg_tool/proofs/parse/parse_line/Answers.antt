@@ -1,88 +1,28 @@
-use Rattle.std.proofs.Common.{◌≡◌, IfOk, None, Ok, Err, ap, subst, sym, ◌∙◌, length}
-use Rattle.peg_parser.specs.Cause.{NoSuchStart, StepLimit, TextTooLong}
-use Rattle.peg_parser.specs.Parser.{parser_rules, start_named}
-use Rattle.peg_semantics.specs.Starts.{start_name}
-use Rattle.peg_parser.specs.declared.parser.ParseFault.TheVariants.{NoSuchStart as NoStart}
-use Rattle.peg_json.specs.Parses.{ParsesToAsked, PrintsOutcomeAsked, selected_outcome, text_too_long, too_many_steps}
-use Rattle.peg_json.specs.Lines.{IsReply, line_bytes}
-use Rattle.peg_json.specs.Reply.{Refused}
+use Rattle.std.proofs.Common.{◌∙◌, Bool, IfOk, List, Option, subst, sym}
+use Rattle.peg_semantics.specs.Rules.{Rule}
+use Rattle.peg_parser.specs.Engine.{shown_parser_rules}
+use Rattle.peg_parser.specs.Parser.{start_named}
+use Rattle.peg_json.specs.Lines.{IsLineOf, line_bytes}
+use Rattle.peg_json.specs.Parses.{ParsesToAsked}
 use Rattle.peg_json.specs.Statuses.{status_code}
-use Rattle.peg_json.proofs.ParseLemmas.{outcome-parses, start-given}
-use Rattle.peg_json.proofs.PrintLemmas.{kind-weaker, refused-with_text, reply-kind}
 use Rattle.peg_tool.specs.Commands.{nodes_asked}
-use Rattle.peg_tool.specs.PrintedNodes.{shown_by}
-use Rattle.peg_tool.proofs.ParsedLines.{given-name, no_start-line, long-text, short-text}
+use Rattle.peg_tool.specs.PrintedNodes.{ShowsPrinted, shown_by}
 use Rattle.peg_tool.proofs.parse.parse_line.Goals as goal
 
-pub returns-in-Ok : goal.returns-in-Ok
-returns-in-Ok c file =
+pub shown_line-requires : goal.shown_line-requires
+shown_line-requires c =
     let printing = c.args.printing in
-    let rules = parser_rules c.args.parser.now in
-    let shown = shown_by rules (nodes_asked printing.nodes) in
-    let outcome = c.in-Ok.answer.outcome in
-    let start = start_named c.args.options.now in
-    let memo = c.args.options.now.memo in
-    let steps = c.args.options.now.steps in
-    let some : (start_name rules start ≡ None → ⊥) =
-    λ none. let both : Ok c.in-Ok.answer ≡ Err NoStart = sym c.in-Ok.is ∙ c.parse.ensures.parse.faults.no_start.1 none in cc in
-    let parses = outcome-parses rules c.args.text.now start memo steps printing.all printing.form shown outcome
-    c.in-Ok.ensures.parse.short c.in-Ok.ensures.parse.limit.enough some c.in-Ok.ensures.parse.outcome in
-    kind-weaker c.nodes_line.result file
-    (PrintsOutcomeAsked rules (selected_outcome shown outcome) c.args.text.now printing.all printing.form printing.with_bytes)
-    (ParsesToAsked rules c.args.text.now start memo steps printing.all printing.form shown printing.with_bytes)
-    (λ reply asked. (asked.0, parses asked.0 asked.1, asked.2)) (c.nodes_line.ensures file)
+    let nodes = nodes_asked printing.nodes in
+    subst (λ (s : Option (List Bool)). ShowsPrinted (shown_parser_rules c.showing.result) s printing.form nodes)
+    (sym c.showing.ensures.shown)
+    (subst (λ (l : List Rule). ShowsPrinted l c.in_ok-set.set printing.form nodes)
+    (c.grammar.ensures ∙ sym c.showing.ensures.rules) c.in_ok-set.ensures)
 
-pub returns-in-Err-NoSuchStart : goal.returns-in-Err-NoSuchStart
-returns-in-Err-NoSuchStart c file =
+pub returns : goal.returns
+returns c file =
     let printing = c.args.printing in
-    let rules = parser_rules c.args.parser.now in
-    let shown = shown_by rules (nodes_asked printing.nodes) in
-    let start = start_named c.args.options.now in
-    let memo = c.args.options.now.memo in
-    let steps = c.args.options.now.steps in
-    let none = c.parse.ensures.parse.faults.no_start.0 (c.in-Err-NoSuchStart.is ∙ ap Err c.in-Err-NoSuchStart.field-0-is) in
-    let named = start-given rules start none in
-    let same : c.unwrap_or.result.now ≡ named.0 =
-    ap (λ name. name.now) c.unwrap_or.ensures ∙ given-name (λ name. name.now) c.args.options.now.start _ named.0 named.1 in
-    no_start-line c.no_start.result file rules c.args.text.now start memo steps printing.all printing.form shown
-    printing.with_bytes named.0
-    named.1 none
-    (λ long. c.no_start.ensures.long long file) (λ short. subst (λ name. IfOk c.no_start.result (λ line.
-    IsReply file (Refused (NoSuchStart name)) (line_bytes line) (status_code line.status))) same
-    (c.no_start.ensures.missing short file))
-
-pub returns-in-Err-TextTooLong : goal.returns-in-Err-TextTooLong
-returns-in-Err-TextTooLong c file =
-    let printing = c.args.printing in
-    let rules = parser_rules c.args.parser.now in
-    let shown = shown_by rules (nodes_asked printing.nodes) in
-    let start = start_named c.args.options.now in
-    let memo = c.args.options.now.memo in
-    let steps = c.args.options.now.steps in
-    let is = c.in-Err-TextTooLong.is ∙ ap Err c.in-Err-TextTooLong.field-0-is in
-    reply-kind c.long_text_line.result file
-    (ParsesToAsked rules c.args.text.now start memo steps printing.all printing.form shown printing.with_bytes)
-    (Refused TextTooLong) (c.long_text_line.ensures file) (
-      Refused TextTooLong,
-      text_too_long (long-text c.parse.result rules start (length c.args.text.now) is c.parse.ensures.parse.faults.no_start
-          c.parse.ensures.parse.faults.long),
-      refused-with_text printing.with_bytes c.args.text.now TextTooLong,
-    )
-
-pub returns-in-Err-StepLimit : goal.returns-in-Err-StepLimit
-returns-in-Err-StepLimit c file =
-    let printing = c.args.printing in
-    let rules = parser_rules c.args.parser.now in
-    let shown = shown_by rules (nodes_asked printing.nodes) in
-    let start = start_named c.args.options.now in
-    let memo = c.args.options.now.memo in
-    let steps = c.args.options.now.steps in
-    let is = c.in-Err-StepLimit.is ∙ ap Err c.in-Err-StepLimit.field-0-is in
-    let more = c.parse.ensures.parse.limit.limited is in
-    reply-kind c.step_limit_line.result file
-    (ParsesToAsked rules c.args.text.now start memo steps printing.all printing.form shown printing.with_bytes)
-    (Refused StepLimit) (c.step_limit_line.ensures file) (
-      Refused StepLimit,
-      too_many_steps (short-text c.parse.result (length c.args.text.now) is (c.parse.ensures.parse.faults.long more.0 more.1)) more,
-      refused-with_text printing.with_bytes c.args.text.now StepLimit,
-    )
+    let options = c.args.options.now in
+    subst (λ (l : List Rule). IfOk c.shown_line.result (λ line. IsLineOf file
+    (ParsesToAsked l c.args.text.now (start_named options) options.memo options.steps printing.all printing.form
+    (shown_by l (nodes_asked printing.nodes)) printing.with_bytes) (line_bytes line) (status_code line.status)))
+    c.showing.ensures.rules (c.shown_line.ensures file)

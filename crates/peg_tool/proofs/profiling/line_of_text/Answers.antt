@@ -1,6 +1,7 @@
 use Rattle.std.proofs.Common.{◌≡◌, IfOk, List, None, Ok, Err, ap, subst, sym, ◌∙◌, length}
 use Rattle.peg_parser.specs.Cause.{NoSuchStart, TextTooLong}
-use Rattle.peg_parser.specs.Parser.{parser_rules, start_named}
+use Rattle.peg_parser.specs.Engine.{rules_shown, shown_parser_rules}
+use Rattle.peg_parser.specs.Parser.{start_named}
 use Rattle.peg_parser.specs.declared.parser.ParseFault.TheVariants.{NoSuchStart as NoStart}
 use Rattle.peg_semantics.specs.Rules.{Rule, names}
 use Rattle.peg_semantics.specs.Starts.{start_name}
@@ -17,7 +18,7 @@ use Rattle.peg_tool.proofs.profiling.line_of_text.Goals as goal
 
 pub returns-in-Ok : goal.returns-in-Ok
 returns-in-Ok c file =
-    let rules = parser_rules c.args.parser.now in
+    let rules = shown_parser_rules c.args.parser.now in
     let profile = c.in-Ok.profile in
     let start = start_named c.args.options.now in
     let memo = c.args.options.now.memo in
@@ -28,13 +29,13 @@ returns-in-Ok c file =
     reply-kind c.profile_line.result file (ProfilesTo rules c.args.text.now start memo steps) (reply_of rules)
     (subst (λ (l : List Rule). IfOk c.profile_line.result (λ line.
     IsReply file (reply_of l) (line_bytes line) (status_code line.status))) c.grammar.ensures (c.profile_line.ensures file))
-    (profile-replies rules c.args.text.now start memo steps profile c.in-Ok.ensures.short some c.in-Ok.ensures.outcome
+    (profile-replies (rules_shown c.args.parser.now) rules c.args.text.now start memo steps profile c.in-Ok.ensures.short some c.in-Ok.ensures.outcome
     c.in-Ok.ensures.rules c.in-Ok.ensures.enough c.in-Ok.ensures.exact c.in-Ok.ensures.steps c.in-Ok.ensures.stopped
     c.in-Ok.ensures.limited c.in-Ok.ensures.limit)
 
 pub returns-in-Err-NoSuchStart : goal.returns-in-Err-NoSuchStart
 returns-in-Err-NoSuchStart c file =
-    let rules = parser_rules c.args.parser.now in
+    let rules = shown_parser_rules c.args.parser.now in
     let start = start_named c.args.options.now in
     let memo = c.args.options.now.memo in
     let steps = c.args.options.now.steps in
@@ -49,7 +50,7 @@ returns-in-Err-NoSuchStart c file =
 
 pub returns-in-Err-TextTooLong : goal.returns-in-Err-TextTooLong
 returns-in-Err-TextTooLong c file =
-    let rules = parser_rules c.args.parser.now in
+    let rules = shown_parser_rules c.args.parser.now in
     let start = start_named c.args.options.now in
     let is = c.in-Err-TextTooLong.is ∙ ap Err c.in-Err-TextTooLong.field-0-is in
     reply-kind c.long_text_line.result file

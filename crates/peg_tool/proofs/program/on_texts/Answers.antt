@@ -14,7 +14,7 @@ returns-in-Ok-coverage_reply-clause-leads g c =
     let names = map string_bytes c.args.texts.now in
     let old = g.W.Sink.written c.args.output.now in
     let new = g.W.Sink.written c.write_coverage.new.output in
-    reply-written (CoverTask (map file_at names) (start_named options) options.memo options.steps) names
+    reply-written (CoverTask (map file_at names) (start_named options) options.memo options.steps c.args.needed) names
     (bytes_of (file_at c.args.g.now)) (g.O.File.Source.left c.in-Ok.file) old new c.in-Ok-coverage_reply.reply
     (plain_result c.write_coverage.result) c.in-Ok.ensures.bytes c.write_coverage.ensures.writes
     c.in-Ok-coverage_reply.ensures.answer
