@@ -249,7 +249,7 @@ The option for coverage is given once, and only to profile.
   unexpected argument '--coverage'
   pegtool parse --help
 
-A prefix counts for the coverage alone.
+A prefix counts for the coverage alone. The line and the list after it are clap's text for MissingRequiredArgument.
 
   $ pegtool profile g t --prefix > o 2> e
   [3]
