@@ -1,8 +1,8 @@
 #!/usr/bin/env bash
-# Runs the gate with `--anew`, which proves also what it could take from earlier runs on this machine. Prints for each crate
-# the seconds that its proof, the proof of its tests and its wrong edits took, as wall-clock time and, in parentheses,
-# processor time, and the peak memory of a check in MiB. It samples the provers once a second, so shorter ones are missed.
-# What the gate prints is in out/gate.log.
+# Runs the gate from nothing: with `--anew` where the toolchain's `rt ci` can take proofs of earlier runs on this machine,
+# and with no option where it never does. Prints for each crate the seconds that its proof, the proof of its tests and
+# its wrong edits took, as wall-clock time and, in parentheses, processor time, and the peak memory of a check in MiB. It
+# samples the provers once a second, so shorter ones are missed. What the gate prints is in out/gate.log.
 set -u
 cd "$(dirname "$0")/.." || exit 1
 exec python3 - "$PWD" << 'PYTHON'
@@ -10,6 +10,7 @@ import os
 import resource
 import subprocess
 import sys
+import tempfile
 import time
 
 TICKS = os.sysconf("SC_CLK_TCK")
@@ -60,10 +61,17 @@ def provers(gate):
         yield pid, crate, kind, (int(fields[11]) + int(fields[12])) / TICKS, memory
 
 
+def options():
+    """The options with which `rt ci` takes nothing from earlier runs: none if it has no such option."""
+    with tempfile.TemporaryDirectory() as folder:
+        tried = subprocess.run(["rt", "ci", "--anew"], cwd=folder, capture_output=True, text=True, check=False)
+    return [] if "usage:" in tried.stdout + tried.stderr else ["--anew"]
+
+
 def main():
     os.makedirs("out", exist_ok=True)
     with open("out/gate.log", "w+", encoding="utf-8", errors="replace") as log:
-        gate = subprocess.Popen(["tests/gate.sh", "--anew"], stdout=log, stderr=subprocess.STDOUT)
+        gate = subprocess.Popen(["tests/gate.sh", *options()], stdout=log, stderr=subprocess.STDOUT)
         clock, used, peak = {}, {}, {}
         began = time.time()
         while gate.poll() is None:
