@@ -24,6 +24,7 @@ PURPOSE = {
     "peg_core": "a grammar -> core forms",
     "peg_check": "core forms -> table, checked grammar",
     "peg_code": "a checked grammar -> a program",
+    "peg_runs": "Ford's records as runs of code, no code",
     "peg_shortcut": "a program, a byte -> a shortcut",
     "peg_nodes": "the nodes of a run, with links to stored results",
     "peg_memo": "the nodes of a run and the results of rules at positions",

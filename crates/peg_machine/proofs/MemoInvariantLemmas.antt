@@ -18,10 +18,10 @@ use Rattle.peg_memo.proofs.HeldLemmas.{get_inserted, get_other, same_or_other, f
 use Rattle.peg_memo.proofs.HeldLemmas.{contains_found, fewer_are_held}
 use Rattle.peg_machine.specs.Packrat.{IsInMemo}
 use Rattle.peg_machine.specs.MemoInvariant.{MemoState, IsTouched, IsOffered, IsResultOf, EntriesAreRecords, HasFullCapacity, NoneTwice}
-use Rattle.peg_machine.specs.Running.{RunContext}
-use Rattle.peg_machine.specs.PartialRuns.{ActiveCall, IsRecordOfCall}
-use Rattle.peg_machine.proofs.NotedLemmas.{head_or_tail}
-use Rattle.peg_machine.proofs.PartialRunLemmas.{kept_more}
+use Rattle.peg_runs.specs.Running.{RunContext}
+use Rattle.peg_runs.specs.PartialRuns.{ActiveCall, IsRecordOfCall}
+use Rattle.peg_runs.proofs.NotedLemmas.{head_or_tail}
+use Rattle.peg_runs.proofs.PartialRunLemmas.{kept_more}
 
 -- Each entry may still be stored when more is noted.
 pub remembers_more : (context : RunContext) (tests more_tests : List Test) (traced more_shown : List RuleCall) (stored : MemoMap)

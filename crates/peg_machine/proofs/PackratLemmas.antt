@@ -3,12 +3,12 @@ use Rattle.std.proofs.Common.{◌≡◌, ◌≢◌, ◌⊎◌, inl, inr, List, [
 use Rattle.std.proofs.lemmas.List.Elements.{All-head, All-tail, Contains-append_cases}
 use Rattle.peg_semantics.specs.Record.{Record, Test, RuleCall}
 use Rattle.peg_memo.specs.MemoMap.{MemoMap}
-use Rattle.peg_machine.specs.Local.{Effects, SavedChoice}
+use Rattle.peg_runs.specs.Local.{Effects, SavedChoice}
 use Rattle.peg_machine.specs.Packrat.{IsOnStack, IsInMemo, AreInMemoOrActive}
-use Rattle.peg_machine.specs.Running.{RunContext}
-use Rattle.peg_machine.specs.PartialRuns.{ActiveCall, Mode, PartialRun}
-use Rattle.peg_machine.proofs.AccountLemmas.{one_pair_on}
-use Rattle.peg_machine.proofs.NotedLemmas.{head_or_tail, not_in_none}
+use Rattle.peg_runs.specs.Running.{RunContext}
+use Rattle.peg_runs.specs.PartialRuns.{ActiveCall, Mode, PartialRun}
+use Rattle.peg_runs.proofs.AccountLemmas.{one_pair_on}
+use Rattle.peg_runs.proofs.NotedLemmas.{head_or_tail, not_in_none}
 
 -- no call below the newest has its pair
 not_on_stack : (pair : RuleCall) (below : List ActiveCall) → All (λ (other : ActiveCall). other.frame.pair ≢ pair) below

@@ -5,10 +5,10 @@ use Rattle.std.proofs.lemmas.List.{length-set}
 use Rattle.peg_tree.specs.Rows.{Row}
 use Rattle.peg_semantics.specs.Record.{RuleCall}
 use Rattle.peg_machine.specs.Entries.{Entry, stack_of, CountsAscend}
-use Rattle.peg_machine.specs.OpenRows.{open_row, opened, own_rows, root_rows, close_row}
-use Rattle.peg_machine.specs.ShownRows.{Shown}
+use Rattle.peg_runs.specs.OpenRows.{open_row, opened, own_rows, root_rows, close_row}
+use Rattle.peg_runs.specs.ShownRows.{Shown}
 use Rattle.peg_machine.proofs.EntryLemmas.{stack_of-changed_row}
-use Rattle.peg_machine.proofs.ShownLemmas.{by_answer, own_rows-hidden, own_rows-shown, root_rows-hidden, root_rows-shown}
+use Rattle.peg_runs.proofs.ShownLemmas.{by_answer, own_rows-hidden, own_rows-shown, root_rows-hidden, root_rows-shown}
 
 -- ---- the root
 

@@ -8,9 +8,9 @@ use Rattle.peg_memo.specs.StoredResult.{StoredResult, StoredFailure, StoredMatch
 pub use Rattle.peg_memo.specs.StoreState.{MemoState, memo_state, IsTouched}
 use Rattle.peg_memo.specs.StoreState.{IsOfferedAt}
 use Rattle.peg_machine.specs.Packrat.{AreInMemoOrActive}
-use Rattle.peg_machine.specs.Running.{RunContext}
-use Rattle.peg_machine.specs.ShownRows.{shown_rows, Shown}
-use Rattle.peg_machine.specs.PartialRuns.{ActiveCall, MayBeStored}
+use Rattle.peg_runs.specs.Running.{RunContext}
+use Rattle.peg_runs.specs.ShownRows.{shown_rows, Shown}
+use Rattle.peg_runs.specs.PartialRuns.{ActiveCall, MayBeStored}
 
 -- ---- a memo at a moment
 

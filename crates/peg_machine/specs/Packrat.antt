@@ -4,7 +4,7 @@ use Rattle.std.specs.Prelude.{◌≡◌, ◌⊎◌, List, [], ◌∷◌, Contain
 use Rattle.std.specs.FinMap as map
 use Rattle.peg_semantics.specs.Record.{RuleCall}
 use Rattle.peg_memo.specs.MemoMap.{MemoMap}
-use Rattle.peg_machine.specs.PartialRuns.{ActiveCall}
+use Rattle.peg_runs.specs.PartialRuns.{ActiveCall}
 
 -- a call of this pair is active
 abbrev pub IsOnStack : List ActiveCall → RuleCall → Type 0

@@ -8,7 +8,7 @@ use Rattle.peg_tree.specs.declared.outcome.Parsed.{Parsed}
 use Rattle.peg_tree.specs.declared.outcome.Parsed.TheVariants.{Matched, Failed}
 use Rattle.peg_core.specs.CoreForm.{CoreForm, Rule}
 use Rattle.peg_core.specs.CoreRecord.{core_record_in}
-use Rattle.peg_machine.specs.Accounts.{OwnSteps}
+use Rattle.peg_runs.specs.Accounts.{OwnSteps}
 use Rattle.peg_machine.specs.CoreOutcome.{saturated}
 use Rattle.peg_machine.specs.declared.answer.Answer.{Answer}
 use Rattle.peg_machine.specs.declared.fault.RunFault.{RunFault}

@@ -2,7 +2,7 @@
 use Rattle.std.specs.Prelude.{◌≡◌, ◌≤◌, ℕ, true, false, drop, length, List}
 use Rattle.peg_nodes.specs.OpenNodes.{AreClosed, IsOpenAt}
 use Rattle.peg_tree.specs.Rows.{Row}
-use Rattle.peg_machine.specs.ShownRows.{Shown}
+use Rattle.peg_runs.specs.ShownRows.{Shown}
 
 -- The nodes from number `count` on are those of a call of a rule whose children are complete. Its own node is the
 -- newest open one. If the rule isn't shown, the nodes are those of its children alone, which are closed.

@@ -1,7 +1,7 @@
 //! The nodes of calls that start and end, where some rules are shown.
 ghost use Rattle.std.specs.Prelude.{◌≡◌, ◌≤◌, ◌∷◌, [], ℕ, drop, length, IfOk, OnOk};
 ghost use Rattle.peg_code.specs.ShownRules.{is_shown_by};
-ghost use Rattle.peg_machine.specs.OpenRows.{close_row, open_row, opened, root_rows};
+ghost use Rattle.peg_runs.specs.OpenRows.{close_row, open_row, opened, root_rows};
 ghost use Rattle.peg_machine.specs.Traced.{starts_at};
 ghost use Rattle.peg_tree.specs.Rows.{row_of};
 ghost use Rattle.peg_machine.specs.Watched.{traced_call};

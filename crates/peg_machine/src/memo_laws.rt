@@ -5,11 +5,11 @@ ghost use Rattle.std.specs.FinMap as map;
 ghost use Rattle.peg_code.specs.Instructions.{Call, Ret};
 ghost use Rattle.peg_semantics.specs.Record.{Record, Test, RuleCall};
 ghost use Rattle.peg_machine.specs.RunInvariant.{after_hit, after_traced_call, Trace, RunInvariant, ReturnKeepsInvariant};
-ghost use Rattle.peg_machine.specs.OpenRows.{opened};
+ghost use Rattle.peg_runs.specs.OpenRows.{opened};
 ghost use Rattle.peg_machine.specs.MemoInvariant.{stored_result, IsOffered, IsTouched, MemoState};
-ghost use Rattle.peg_machine.specs.Running.{RunContext};
-ghost use Rattle.peg_machine.specs.CodeLayout.{EntriesAreLaidOut};
-ghost use Rattle.peg_machine.specs.PartialRuns.{mode_after, ActiveCall, Mode, Backtracks, RunsAt};
+ghost use Rattle.peg_runs.specs.Running.{RunContext};
+ghost use Rattle.peg_runs.specs.CodeLayout.{EntriesAreLaidOut};
+ghost use Rattle.peg_runs.specs.PartialRuns.{mode_after, ActiveCall, Mode, Backtracks, RunsAt};
 ghost use Rattle.peg_memo.specs.StoredResult.{StoredResult, StoredFailure};
 ghost use Rattle.peg_tree.specs.Rows.{Row};
 

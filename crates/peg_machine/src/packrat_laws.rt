@@ -1,10 +1,10 @@
 //! Laws of the packrat property. Each function has an empty body; its contract is the law.
 ghost use Rattle.std.specs.Prelude.{◌++◌, ◌∷◌, [], Contains, List};
 ghost use Rattle.peg_semantics.specs.Record.{Record, Test, RuleCall};
-ghost use Rattle.peg_machine.specs.Local.{Effects, SavedChoice};
+ghost use Rattle.peg_runs.specs.Local.{Effects, SavedChoice};
 ghost use Rattle.peg_machine.specs.Packrat.{AreInMemoOrActive, IsInMemo};
-ghost use Rattle.peg_machine.specs.Running.{RunContext};
-ghost use Rattle.peg_machine.specs.PartialRuns.{ActiveCall, Mode, PartialRun};
+ghost use Rattle.peg_runs.specs.Running.{RunContext};
+ghost use Rattle.peg_runs.specs.PartialRuns.{ActiveCall, Mode, PartialRun};
 ghost use Rattle.peg_memo.specs.MemoMap.{MemoMap};
 
 /// A call that has no memo entry was never traced, if each pair traced has a memo entry or is active.

@@ -11,7 +11,7 @@ use Rattle.peg_semantics.specs.Form.{Name}
 use Rattle.peg_semantics.specs.Record.{Record, RuleCall}
 use Rattle.peg_semantics.specs.Rules.{Rule, name_of}
 use Rattle.peg_semantics.specs.Starts.{Recognizes}
-use Rattle.peg_machine.specs.Accounts.{OwnSteps}
+use Rattle.peg_runs.specs.Accounts.{OwnSteps}
 use Rattle.peg_machine.specs.SelectedTests.{IsCoreOutcomeBy}
 use Rattle.peg_machine.specs.Traced.{HasTraced, HasTracedFirst, HasTracedSoFar, IsVisited, OwnStepsExceed, TracesInOrder}
 use Rattle.peg_machine.specs.declared.fault.RunFault.TheVariants.{StepLimit}

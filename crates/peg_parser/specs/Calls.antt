@@ -1,7 +1,7 @@
 -- The calls of rules in Ford's record of a text (Ford 2004, section 3.3; Ford 2002, section 3).
 use Rattle.std.specs.Prelude.{◌≡◌, ◌↔◌, ◌+◌, ℕ, List, ◌++◌, Contains, Option, Some}
 use Rattle.peg_core.specs.CoreForm.{core_bodies, number_of}
-use Rattle.peg_machine.specs.Accounts.{OwnSteps}
+use Rattle.peg_runs.specs.Accounts.{OwnSteps}
 use Rattle.peg_machine.specs.CoreOutcome.{saturated}
 use Rattle.peg_machine.specs.Traced.{OwnStepsExceed, end_of_run}
 use Rattle.peg_machine.specs.declared.answer.Answer.{Answer}

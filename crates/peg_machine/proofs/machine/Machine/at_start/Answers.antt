@@ -6,8 +6,8 @@ use Rattle.peg_machine.specs.Machine.{trace_from, entry_of, context_of}
 use Rattle.peg_machine.specs.Traced.{starts_at}
 use Rattle.peg_machine.specs.MachineStates.{IsActive}
 use Rattle.peg_code.specs.ShownRules.{is_shown_by}
-use Rattle.peg_machine.specs.OpenRows.{open_row, root_rows}
-use Rattle.peg_machine.specs.PartialRuns.{RunsAt}
+use Rattle.peg_runs.specs.OpenRows.{open_row, root_rows}
+use Rattle.peg_runs.specs.PartialRuns.{RunsAt}
 use Rattle.peg_machine.specs.declared.entry.Entry as code
 use Rattle.peg_machine.specs.declared.entry.Entry.TheVariants.{Frame}
 use Rattle.peg_machine.proofs.InputLemmas.{enters_of}

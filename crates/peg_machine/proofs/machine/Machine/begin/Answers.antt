@@ -6,8 +6,8 @@ use Rattle.peg_machine.specs.Entries.{Entry, CallEntry, nodes_below}
 use Rattle.peg_machine.specs.RunInvariant.{after_traced_call}
 use Rattle.peg_machine.specs.Machine.{entry_of, state_of, context_of}
 use Rattle.peg_machine.specs.MachineStates.{IsActive}
-use Rattle.peg_machine.specs.OpenRows.{opened}
-use Rattle.peg_machine.specs.PartialRuns.{RunsAt}
+use Rattle.peg_runs.specs.OpenRows.{opened}
+use Rattle.peg_runs.specs.PartialRuns.{RunsAt}
 use Rattle.peg_machine.specs.declared.entry.Entry.TheVariants.{Frame}
 use Rattle.peg_machine.proofs.CutLemmas.{cuts-same}
 use Rattle.peg_machine.proofs.InputLemmas.{enters_of, rule-within}

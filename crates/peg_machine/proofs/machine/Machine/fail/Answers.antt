@@ -3,7 +3,7 @@ use Rattle.peg_machine.specs.Entries.{Entry, nodes_below, CountsAscend}
 use Rattle.peg_machine.specs.Machine.{entry_of, state_of}
 use Rattle.peg_machine.specs.MachineStates.{BeginWithACall, HasFailed, IsAt, IsActive}
 use Rattle.peg_memo.specs.StoreState.{StoreState}
-use Rattle.peg_machine.specs.PartialRuns.{RunsAt, Backtracks}
+use Rattle.peg_runs.specs.PartialRuns.{RunsAt, Backtracks}
 use Rattle.peg_machine.specs.declared.entry.Entry as code
 use Rattle.peg_machine.specs.declared.entry.Entry.TheVariants.{Frame, ChoicePoint}
 use Rattle.peg_machine.proofs.CutLemmas.{All-front, All-last, cuts-same, cuts-up_to}

@@ -2,7 +2,7 @@ use Rattle.std.proofs.Common.{◌≡◌, ◌⊎◌, [], map}
 use Rattle.peg_machine.specs.RunInvariant.{Trace}
 use Rattle.peg_machine.specs.Machine.{entry_of, state_of, AreCuts, IsFailing}
 use Rattle.peg_machine.specs.MachineStates.{HasFailed}
-use Rattle.peg_machine.specs.Running.{RunContext}
+use Rattle.peg_runs.specs.Running.{RunContext}
 use Rattle.peg_machine.proofs.machine.Machine.fail.Given as goal
 
 -- the machine still backtracks, or the run has failed and the stack is empty; the store may be cut at each entry

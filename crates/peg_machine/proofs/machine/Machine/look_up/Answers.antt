@@ -7,7 +7,7 @@ use Rattle.peg_memo.specs.declared.node_store.Recalled.{Recalled}
 use Rattle.peg_machine.specs.RunInvariant.{after_hit}
 use Rattle.peg_machine.specs.Machine.{state_of, context_of, IsFailing}
 use Rattle.peg_machine.specs.MachineStates.{IsActive}
-use Rattle.peg_machine.specs.PartialRuns.{RunsAt}
+use Rattle.peg_runs.specs.PartialRuns.{RunsAt}
 use Rattle.peg_machine.proofs.StateEnds.{hits_failure, hits_match}
 use Rattle.peg_machine.proofs.machine.Machine.look_up.Goals as goal
 

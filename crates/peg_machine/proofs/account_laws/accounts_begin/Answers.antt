@@ -1,5 +1,0 @@
-use Rattle.peg_machine.proofs.AccountLemmas.{begin_for_both}
-use Rattle.peg_machine.proofs.account_laws.accounts_begin.Goals as goal
-
-pub returns : goal.returns
-returns c = begin_for_both

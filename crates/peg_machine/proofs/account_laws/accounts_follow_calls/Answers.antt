@@ -1,5 +1,0 @@
-use Rattle.peg_machine.proofs.AccountLemmas.{hit_for_both, call_for_both}
-use Rattle.peg_machine.proofs.account_laws.accounts_follow_calls.Goals as goal
-
-pub returns : goal.returns
-returns c = record { hits = hit_for_both; begins = call_for_both }

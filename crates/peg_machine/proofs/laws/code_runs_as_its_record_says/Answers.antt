@@ -1,6 +1,0 @@
-use Rattle.peg_machine.proofs.RecordRuns.{record_runs}
-use Rattle.peg_machine.proofs.laws.code_runs_as_its_record_says.Goals as goal
-
-pub returns : goal.returns
-returns c counted bodies body_context n form pc position steps r answers code_at =
-    record_runs body_context counted bodies n answers form position pc code_at r steps

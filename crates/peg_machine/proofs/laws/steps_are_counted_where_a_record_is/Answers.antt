@@ -1,5 +1,0 @@
-use Rattle.peg_machine.proofs.StepsOfRecords.{steps_in-there}
-use Rattle.peg_machine.proofs.laws.steps_are_counted_where_a_record_is.Goals as goal
-
-pub returns : goal.returns
-returns c = steps_in-there

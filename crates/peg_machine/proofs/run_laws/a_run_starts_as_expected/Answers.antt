@@ -1,5 +1,0 @@
-use Rattle.peg_machine.proofs.Stacks.{begins_run}
-use Rattle.peg_machine.proofs.run_laws.a_run_starts_as_expected.Goals as goal
-
-pub returns : goal.returns
-returns c = begins_run

@@ -1,5 +1,0 @@
-use Rattle.peg_machine.proofs.Expectations.{step_done, after_rounds}
-use Rattle.peg_machine.proofs.run_laws.a_step_consumes_promised_work.Goals as goal
-
-pub returns : goal.returns
-returns c = record { step = step_done; rounds = after_rounds }

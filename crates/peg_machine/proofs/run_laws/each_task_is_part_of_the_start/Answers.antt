@@ -1,5 +1,0 @@
-use Rattle.peg_machine.proofs.TasksTogether.{within_the_start}
-use Rattle.peg_machine.proofs.run_laws.each_task_is_part_of_the_start.Goals as goal
-
-pub returns : goal.returns
-returns c = within_the_start

@@ -1,5 +1,0 @@
-use Rattle.peg_machine.proofs.TasksTogether.{no_pair_twice}
-use Rattle.peg_machine.proofs.run_laws.no_call_is_active_twice.Goals as goal
-
-pub returns : goal.returns
-returns c = no_pair_twice

@@ -1,0 +1,12 @@
+pub mod Accounts
+pub mod CodeLayout
+pub mod Local
+pub mod Noted
+pub mod OpenRows
+pub mod PartialRuns
+pub mod Running
+pub mod Runs
+pub mod ShownRows
+pub mod Starts
+pub mod StepExamples
+pub mod Steps
