@@ -18,9 +18,11 @@ use Rattle.peg_semantics.specs.Rules.{Rule, names}
 use Rattle.peg_semantics.specs.Starts.{start_name}
 use Rattle.peg_semantics.specs.WellFormed.{IsWellFormedGrammar}
 use Rattle.peg_tree.specs.declared.outcome.Outcome.{Outcome}
-use Rattle.peg_tree.specs.Selected.{has_rule}
 use Rattle.peg_blame.specs.BlameCalls.{HasCalledRules, is_called}
 use Rattle.peg_blame.specs.BlameOutcome.{IsBlameOutcome}
+use Rattle.peg_blame.specs.CallsAt.{HasNoted}
+use Rattle.peg_blame.specs.declared.calls_at.CallsAt.{CallsAt}
+use Rattle.peg_blame.specs.Sought.{sought}
 use Rattle.peg_parser.specs.ShowsNone.{ShowsNone}
 use Rattle.peg_blame.proofs.BlameCalls.{called-rules}
 use Rattle.peg_blame.proofs.BlameOutcomes.{blame-outcome}
@@ -39,6 +41,20 @@ none-from (Some name) is = cc
 pub some-from : (start : Option (List ℕ)) → is_some start ≡ true → (name : List ℕ) × (start ≡ Some name)
 some-from None is = cc
 some-from (Some name) is = (name, refl)
+
+-- what a tracer looks for is what it was made for
+also-called : (count at : ℕ) (after : CallsAt) (calls : List RuleCall) (noted : HasNoted after (sought count at ∷ calls))
+    (rule : ℕ)
+    → is_called (calls_of_first after.rules noted.later) rule after.at ≡ is_called (calls_of_first count calls) rule at
+also-called count at after calls noted rule =
+    let same : sought count at ∷ calls ≡ sought after.rules after.at ∷ noted.later = noted.first in
+    let first : sought after.rules after.at ≡ sought count at = cc in
+    let later : noted.later ≡ calls = cc in
+    let rules : after.rules ≡ count = ap (λ (call : RuleCall). call.rule) first in
+    let position : after.at ≡ at = ap (λ (call : RuleCall). call.position) first in
+    ap (λ (n : ℕ). is_called (calls_of_first n noted.later) rule after.at) rules
+    ∙ ap (λ (l : List RuleCall). is_called (calls_of_first count l) rule after.at) later
+    ∙ ap (λ (p : ℕ). is_called (calls_of_first count calls) rule p) position
 
 module _ (rules shown : List Rule) (named : Option (List ℕ)) (same : shown ≡ diagnostic_rules rules)
     (some : 0 < length rules) where
@@ -69,31 +85,27 @@ module _ (rules shown : List Rule) (named : Option (List ℕ)) (same : shown ≡
           (subst (λ (l : List ℕ). IsParseOutcomeBy set (Some l) (diagnostic_rules rules) text start outcome) listed
           (subst (λ (all : List Rule). IsParseOutcomeBy set (Some terminals) all text start outcome) same here)))
 
-  -- a tracer that stores a list has traced these calls
-  abbrev stores : (stored calls : List RuleCall) → Type 0
-  stores stored calls = stored ≡ calls
-
   -- the rules that are called from a start
-  pub start-called : (text : List ℕ) (at : ℕ) (set : List Bool) (before after : List RuleCall) (answer : Answer)
-      → before ≡ [] → Distinct (names (diagnostic_rules rules)) → ∥ IsWellFormedGrammar rules ∥₁
-      → IfSome (start_name shown named) (λ start. TracesCallsOf shown text start answer (GetsCalls true stores before after))
-      → ((rule : ℕ) → has_rule set rule ≡ is_called (calls_of_first (length rules) after) rule at)
-      → IfSome (start_name rules named) (λ start. HasCalledRules rules text start at set)
-  start-called text at set before after answer none distinct formed traced is = by (start_name rules named) refl
+  pub start-called : (text : List ℕ) (at : ℕ) (before after : CallsAt) (answer : Answer)
+      → HasNoted before (sought (length rules) at ∷ [])
+      → Distinct (names (diagnostic_rules rules)) → ∥ IsWellFormedGrammar rules ∥₁
+      → IfSome (start_name shown named) (λ start. TracesCallsOf shown text start answer (GetsCalls true HasNoted before after))
+      → IfSome (start_name rules named) (λ start. HasCalledRules rules text start at after.set)
+  start-called text at before after answer none distinct formed traced = by (start_name rules named) refl
     where
       by : (start : Option (List ℕ)) → start_name rules named ≡ start
-          → IfSome start (λ start. HasCalledRules rules text start at set)
+          → IfSome start (λ start. HasCalledRules rules text start at after.set)
       by None found = tt
       by (Some start) found =
           let numbered = start-numbered rules named start some found in
-          let here : TracesCallsOf shown text start answer (GetsCalls true stores before after) =
-          subst (λ (o : Option (List ℕ)). IfSome o (λ start. TracesCallsOf shown text start answer (GetsCalls true stores before after)))
+          let here : TracesCallsOf shown text start answer (GetsCalls true HasNoted before after) =
+          subst (λ (o : Option (List ℕ)). IfSome o (λ start. TracesCallsOf shown text start answer (GetsCalls true HasNoted before after)))
           (shown-start start found) traced in
           let calls = here.0.calls in
-          let all : after ≡ calls = here.1 refl before refl ∙ ap (λ (l : List RuleCall). l ++ calls) none in
-          called-rules rules distinct text start at set calls numbered.0 numbered.1 numbered.2 formed
+          let noted : HasNoted after (sought (length rules) at ∷ calls) = here.1 refl (sought (length rules) at ∷ []) none in
+          called-rules rules distinct text start at after.set calls numbered.0 numbered.1 numbered.2 formed
           (subst (λ (l : List Rule). AreCallsOf l text start calls) same here.0.of_record)
-          (λ rule. is rule ∙ ap (λ (l : List RuleCall). is_called (calls_of_first (length rules) l) rule at) all)
+          (λ rule. noted.set rule ∙ also-called (length rules) at after calls noted rule)
 
 -- indices of terminals are numbers of items
 pub items-fit : (rules : List Rule) (terminals expected : List ℕ) → terminals ≡ item_terminals rules

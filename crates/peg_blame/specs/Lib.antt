@@ -10,5 +10,7 @@ pub use Rattle.peg_semantics.specs.Starts
 pub mod BlameCalls
 pub mod BlameOutcome
 pub mod BlameParser
+pub mod CallsAt
 pub mod Faults
 pub mod InText
+pub mod Sought

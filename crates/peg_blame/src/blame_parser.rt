@@ -22,14 +22,13 @@ ghost use Rattle.peg_semantics.specs.Rules.{Rule};
 ghost use Rattle.peg_semantics.specs.Starts.{start_name};
 ghost use Rattle.peg_semantics.specs.WellFormed.{IsWellFormedGrammar};
 
-use crate::called_rules::rules_called_at;
+use crate::calls_at::CallsAt;
 use crate::fault::BlameFault;
 use peg_bytes::Span;
 use peg_diagnostics::{
     ItemKind, diagnostic_grammar, item_kinds, item_rules, item_spans, item_terminals,
 };
-use peg_grammar::Grammar;
-use peg_machine::ListWatch;
+use peg_grammar::{Grammar, MAX_TEXT_BYTES};
 use peg_parser::{Answer, ParseFault, ParseOptions, Parser, Refusal, ShownParser};
 use peg_tree::RuleSet;
 use std::alloc::Global;
@@ -152,8 +151,8 @@ impl BlameParser {
     /// calls are those of Ford's record of the text (Ford 2004, section 3.3), without those in predicates. The law
     /// `blame_calls_are_calls` of `peg_diagnostics` says that each is a call of the record.
     ///
-    /// The text is parsed again, in one run. The errors are those of `blame`. Takes up to 16 bytes of memory for each
-    /// call, besides what the parse takes.
+    /// The text is parsed again, in one run. The errors are those of `blame`. Takes one byte of memory for each rule,
+    /// besides what the parse takes.
     ///
     /// # Example
     ///
@@ -181,9 +180,12 @@ impl BlameParser {
         if !self.has_start(options) {
             return Err(ParseFault::NoSuchStart);
         }
-        let mut calls = ListWatch::new(alloc);
+        if text.len() > MAX_TEXT_BYTES {
+            return Err(ParseFault::TextTooLong);
+        }
+        let mut calls = CallsAt::new(alloc, self.rules, at)?;
         let _answer = self.parser.trace(alloc, text, options, &mut calls)?;
-        Ok(rules_called_at(alloc, self.rules, calls.pairs(), at)?)
+        Ok(calls.into_rules())
     }
 
     // Whether the start is a rule of the grammar as written. The diagnostic grammar has a quiet copy of each rule, too.

@@ -2,7 +2,7 @@
 #![tactic(auto)]
 
 mod blame_parser;
-mod called_rules;
+mod calls_at;
 mod fault;
 
 pub use blame_parser::BlameParser;

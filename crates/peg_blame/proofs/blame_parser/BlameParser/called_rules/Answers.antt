@@ -1,14 +1,13 @@
-use Rattle.std.proofs.Common.{rules as by_rules, ◌≡◌, ◌∙◌, ℕ, List, None, Some, ap, length, map, subst, sym, true}
-use Rattle.peg_diagnostics.specs.LoudCalls.{calls_of_first}
-use Rattle.peg_machine.specs.Watched.{call_of}
+use Rattle.std.proofs.Common.{rules as by_rules, ◌≡◌, ◌∙◌, ◌∷◌, [], ℕ, Bool, List, IfSome, None, Some, subst, sym, true}
 use Rattle.peg_parser.specs.Engine.{shown_parser_rules}
 use Rattle.peg_parser.specs.Parser.{start_named}
 use Rattle.peg_parser.specs.StepLimits.{TakesMoreSteps}
-use Rattle.peg_semantics.specs.Record.{RuleCall}
 use Rattle.peg_semantics.specs.Rules.{Rule}
 use Rattle.peg_semantics.specs.Starts.{start_name}
-use Rattle.peg_blame.specs.BlameCalls.{is_called}
+use Rattle.peg_blame.specs.BlameCalls.{HasCalledRules}
 use Rattle.peg_blame.specs.BlameParser.{IsBlameParserOf}
+use Rattle.peg_blame.specs.CallsAt.{HasNoted}
+use Rattle.peg_blame.specs.Sought.{sought}
 use Rattle.peg_blame.proofs.BlameFaults.{error-passed, passed-error}
 use Rattle.peg_blame.proofs.BlameParses.{nonempty, shown-start, some-from, start-called}
 use Rattle.peg_blame.proofs.blame_parser.BlameParser.called_rules.Goals as goal
@@ -37,13 +36,13 @@ returns-in_err-_answer-clause-faults c rules is =
     let stated = c.in_err-_answer.ensures.parse.faults in record {
       no_start = (
         λ none. let both : None ≡ Some name.0 = sym (stated.no_start.0 (passed-error _ _ _
-            c.from_residual.ensures.1 none)) ∙ there in cc,
+            c.from_residual-in_err-_answer.ensures.1 none)) ∙ there in cc,
         λ none. let both : None ≡ Some name.0 = sym none ∙ name.1 in cc,
       );
       long = λ start at.
           let long = stated.long start (shown after rules is start at) in (
-            λ passed. long.0 (passed-error _ _ _ c.from_residual.ensures.1 passed),
-            λ over. error-passed _ _ _ c.from_residual.ensures.1 (long.1 over),
+            λ passed. long.0 (passed-error _ _ _ c.from_residual-in_err-_answer.ensures.1 passed),
+            λ over. error-passed _ _ _ c.from_residual-in_err-_answer.ensures.1 (long.1 over),
           );
     }
 
@@ -52,7 +51,7 @@ returns-in_err-_answer-clause-limit c rules is = record {
   limited = λ more.
       subst (λ (all : List Rule). TakesMoreSteps all c.args.text.now (start_named c.args.options.now)
       c.args.options.now.steps) is.diagnostic (c.in_err-_answer.ensures.parse.limit.limited (passed-error _ _ _
-      c.from_residual.ensures.1 more));
+      c.from_residual-in_err-_answer.ensures.1 more));
   enough = search by_rules;
 }
 
@@ -60,14 +59,14 @@ pub returns-clause-called : goal.returns-clause-called
 returns-clause-called c rules is =
     let all = shown_parser_rules c.args.self.now.parser in
     let named = start_named c.args.options.now in
-    let before = c.new-calls.result in
+    let before = c.in_ok-calls.calls in
     let after = c.trace.new.watch in
-    start-called rules all named is.diagnostic (nonempty rules is.grammar) c.args.text.now c.args.at
-    c.in_ok-rules_called_at.field-0 before after c.in_ok-_answer._answer c.new-calls.ensures is.distinct is.well_formed
-    c.in_ok-_answer.ensures.traced
-    (λ rule. c.in_ok-rules_called_at.ensures rule
-    ∙ ap (λ (n : ℕ). is_called (calls_of_first n (map call_of c.pairs.result.now)) rule c.args.at) is.count
-    ∙ ap (λ (l : List RuleCall). is_called (calls_of_first (length rules) l) rule c.args.at) c.pairs.ensures)
+    subst (λ (set : List Bool). IfSome (start_name rules named) (λ start. HasCalledRules rules c.args.text.now start
+    c.args.at set)) (sym c.into_rules.ensures)
+    (start-called rules all named is.diagnostic (nonempty rules is.grammar) c.args.text.now c.args.at
+    before after c.in_ok-_answer._answer
+    (subst (λ (n : ℕ). HasNoted before (sought n c.args.at ∷ [])) is.count c.in_ok-calls.ensures)
+    is.distinct is.well_formed c.in_ok-_answer.ensures.traced)
 
 pub returns-clause-limit : goal.returns-clause-limit
 returns-clause-limit c rules is = record {
