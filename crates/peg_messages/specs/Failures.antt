@@ -1,7 +1,7 @@
 -- The message for a text that doesn't match.
-use Rattle.std.specs.Prelude.{ℕ, not, List, ◌++◌, codes, filter, map}
+use Rattle.std.specs.Prelude.{ℕ, not, nat_lt, if◌then◌else◌, List, ◌++◌, codes, filter, length, map, slice_index}
 use Rattle.peg_messages.specs.Ends.{end_texts}
-use Rattle.peg_messages.specs.Found.{found_text}
+use Rattle.peg_messages.specs.Found.{found_text, longest_room}
 use Rattle.peg_messages.specs.Items.{is_end_item, item_text}
 use Rattle.peg_messages.specs.Listing.{listed}
 use Rattle.peg_messages.specs.Places.{place_text}
@@ -22,10 +22,17 @@ expected_texts failure =
     end_texts failure.is_end_expected ++ (map (item_text failure.grammar.now) (end_items failure)
     ++ map (item_text failure.grammar.now) (other_items failure))
 
+-- how many bytes of a word are shown as found: as many as the longest expected literal that begins like it has
+abbrev pub found_room : Failure → ℕ
+found_room failure =
+    if nat_lt failure.at (length failure.text.now)
+    then longest_room failure.grammar.now (slice_index failure.text.now failure.at) failure.expected.now
+    else 0
+
 -- the place, what is expected and found there, its line, and a caret below it
 abbrev pub failure_message : Failure → List ℕ
 failure_message failure =
     place_text failure.name.now failure.text.now failure.at
     ++ codes "expected " ++ listed (expected_texts failure)
-    ++ codes ", found " ++ found_text failure.text.now failure.at ++ codes "\n"
+    ++ codes ", found " ++ found_text failure.text.now failure.at (found_room failure) ++ codes "\n"
     ++ source_lines failure.text.now failure.at

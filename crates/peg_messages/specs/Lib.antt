@@ -1,5 +1,6 @@
 pub use Rattle.peg_bytes.specs.Extent
 pub use Rattle.peg_bytes.specs.Place
+pub mod CharacterNames
 pub mod Characters
 pub mod Shown
 pub mod FileNames

@@ -1,5 +1,5 @@
 -- Why a grammar file is refused, as a sentence of a message.
-use Rattle.std.specs.Prelude.{ℕ, ◌+◌, ◌==◌, if◌then◌else◌}
+use Rattle.std.specs.Prelude.{ℕ, ◌+◌, ◌==◌, not, if◌then◌else◌}
 use Rattle.std.specs.Prelude.{List, [], ◌∷◌, ◌++◌, codes, drop, length, map, slice_index}
 use Rattle.std.specs.List.{flat_map, take_while}
 use Rattle.peg_messages.specs.Characters.{first_character}
@@ -34,19 +34,26 @@ name_from rest = take_while is_name_byte rest
 -- the name at an offset, or the character
 abbrev pub token_text : (file : List ℕ) → (at : ℕ) → List ℕ
 token_text file at =
-    if length (name_from (drop at file)) == 0 then found_text file at else name_from (drop at file)
+    if length (name_from (drop at file)) == 0 then found_text file at 0 else name_from (drop at file)
 
 -- what is written in place of a form of other notations
 abbrev pub foreign_sentence : SyntaxCause → List ℕ
-foreign_sentence OtherComment = codes "a comment begins with # and ends with its line"
-foreign_sentence Label = codes "a label isn't in the notation, and a definition is written NAME <- EXPRESSION"
-foreign_sentence BareEscape = codes "an escape stands in a literal or class, as in [\\t]"
+foreign_sentence OtherComment = codes "a comment begins with #"
+foreign_sentence Label = codes "there are no labels: give the part a rule of its own"
+foreign_sentence BareEscape = codes "an escape is written in a literal or a class, as in [\\t]"
 foreign_sentence Braces = codes "a count is written {2} or {2,4}"
-foreign_sentence NoBreakSpace = codes "a no-break space is no spacing: write a space"
-foreign_sentence NoArrow = codes "a definition is written NAME <- EXPRESSION"
+foreign_sentence NoBreakSpace = codes "unexpected '\\xC2\\xA0' (no-break space): write a blank"
 foreign_sentence Bar = codes "alternatives are separated by /, not by |"
 foreign_sentence Semicolon = codes "a definition doesn't end in a semicolon"
 foreign_sentence other = []
+
+-- what to write in place of the arrows `->` and `=>`, with which the bytes from an error on begin: `-` is 45, `=` is 61
+-- and `>` is 62
+abbrev pub arrow_hint : List ℕ → List ℕ
+arrow_hint rest =
+    if not (slice_index rest 1 == 62) then [] else
+    if slice_index rest 0 == 45 then codes ": write <- in place of ->" else
+    if slice_index rest 0 == 61 then codes ": write <- in place of =>" else []
 
 -- the cause of a syntax error at an offset
 abbrev pub cause_sentence : (file : List ℕ) → (at : ℕ) → SyntaxCause → List ℕ
@@ -57,6 +64,7 @@ cause_sentence file at OpenLiteral = codes "this literal isn't closed"
 cause_sentence file at OpenClass = codes "this class isn't closed: a bracket after a dash, as in [a-], ends a range"
 cause_sentence file at (BadEscape backslash) = escape_sentence (drop (backslash + 1) file)
 cause_sentence file at Unexpected = codes "unexpected " ++ token_text file at
+cause_sentence file at NoArrow = codes "a definition is written NAME <- EXPRESSION" ++ arrow_hint (drop at file)
 cause_sentence file at foreign = foreign_sentence foreign
 
 -- a rule, and what is wrong with it

@@ -27,7 +27,8 @@ fn ends_comment(byte: u8) -> bool
     byte == b'\n' || byte == b'\r'
 }
 
-fn is_blank(byte: u8) -> bool
+/// Returns whether a byte is a space, a tab or a line end.
+pub(crate) fn is_blank(byte: u8) -> bool
     ensures { result ≡ is_blank byte }
 {
     byte == b' ' || byte == b'\t' || ends_comment(byte)

@@ -4,7 +4,7 @@ ghost use Rattle.peg_bytes.specs.Place.{max_offset};
 ghost use Rattle.peg_messages.specs.Ends.{end_texts};
 ghost use Rattle.peg_messages.specs.Listings.{IsListing, bytes_of_each};
 
-use crate::found::write_found;
+use crate::found::{longest_room, write_found};
 use crate::items::{Item, is_end_item, item_text};
 use crate::listing::Listing;
 use crate::numbers::write_place;
@@ -28,7 +28,7 @@ pub struct Failure<'a> {
 }
 
 impl Failure<'_> {
-    ghost use Rattle.peg_messages.specs.Failures.{expected_texts, failure_message};
+    ghost use Rattle.peg_messages.specs.Failures.{expected_texts, failure_message, found_room};
     ghost use Rattle.peg_messages.specs.Listing.{listed};
     ghost use Rattle.peg_messages.specs.Listings.{IsListed};
 
@@ -39,6 +39,10 @@ impl Failure<'_> {
     /// end of the text if it is expected. The end is written first, so that no number of other items hides it. Equal
     /// items are written once, and at most eight are written; then `N more` counts the others. An item is compared only
     /// with the first 64 different ones. Further items are counted each.
+    ///
+    /// If literals are expected that begin with the same letter as the text, in either case, the text is shown up to the
+    /// length of the longest one, or up to a blank. Otherwise one character is shown. A character that can't be seen, or
+    /// that looks like one of ASCII, has its name, as in `'\xC2\xA0' (no-break space)`.
     ///
     /// Bytes that are neither printable ASCII nor UTF-8 are written as escapes of the notation. At most 120 bytes of
     /// the line are shown, the first of them 80 before the position. A tab of the line stays a tab, and so does the blank
@@ -86,10 +90,20 @@ impl Failure<'_> {
         message.extend_from_slice(b"expected ")?;
         self.write_expected(alloc, &mut message)?;
         message.extend_from_slice(b", found ")?;
-        write_found(self.text, self.at, &mut message)?;
+        write_found(self.text, self.at, self.found_room(), &mut message)?;
         message.extend_from_slice(b"\n")?;
         write_source(self.text, self.at, &mut message)?;
         Ok(message)
+    }
+
+    // Returns how many bytes of a word are shown as found.
+    fn found_room(&self) -> usize
+        ensures { result ≡ found_room self.now }
+    {
+        match self.text.get(self.at as usize) {
+            Some(first) => longest_room(self.grammar, *first, self.expected),
+            None => 0,
+        }
     }
 
     // Writes the list of what is expected.

@@ -71,8 +71,8 @@ fn write_rule(rule: Option<&str>, out: &mut Vec<u8>) -> Result<(), AllocError>
     }
 }
 
-// Returns the bytes of a file in a span, as far as the file has them.
-fn span_bytes(file: &[u8], span: Span) -> &[u8]
+/// Returns the bytes of a file in a span, as far as the file has them.
+pub(crate) fn span_bytes(file: &[u8], span: Span) -> &[u8]
     ensures { result.now ≡ span_bytes file.now (extent span) }
 {
     part_of(file, span.start as usize, span.end as usize)

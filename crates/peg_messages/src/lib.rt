@@ -4,6 +4,7 @@
 mod blanks;
 mod bytes;
 mod causes;
+mod character_names;
 mod characters;
 mod failure;
 mod file_name;

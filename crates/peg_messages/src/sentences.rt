@@ -2,7 +2,8 @@
 ghost use Rattle.std.specs.Prelude.{◌≡◌, ◌≤◌, ◌<◌, ◌+◌, ◌++◌, OnOk, codes, drop, length, map};
 ghost use Rattle.std.specs.List.{flat_map};
 ghost use Rattle.peg_bytes.specs.Place.{max_offset};
-ghost use Rattle.peg_messages.specs.Sentences.{arrowed, backslash_text, cause_sentence, dash_hint, escape_sentence};
+ghost use Rattle.peg_messages.specs.Sentences.{arrow_hint, arrowed, backslash_text, cause_sentence, dash_hint};
+ghost use Rattle.peg_messages.specs.Sentences.{escape_sentence};
 ghost use Rattle.peg_messages.specs.Sentences.{foreign_sentence, name_from, path_text, reason_sentence};
 ghost use Rattle.peg_messages.specs.Sentences.{rule_sentence, token_text};
 
@@ -74,12 +75,12 @@ fn write_cause(
             out,
         ),
         SyntaxCause::Unexpected => write_unexpected(file, at, out),
+        SyntaxCause::NoArrow => write_arrow_fault(bytes_after(file, at as usize), out),
         SyntaxCause::OtherComment
         | SyntaxCause::Label
         | SyntaxCause::BareEscape
         | SyntaxCause::Braces
         | SyntaxCause::NoBreakSpace
-        | SyntaxCause::NoArrow
         | SyntaxCause::Bar
         | SyntaxCause::Semicolon => out.extend_from_slice(foreign_sentence(cause)),
     }
@@ -90,13 +91,11 @@ fn foreign_sentence<'a>(cause: SyntaxCause) -> &'a [u8]
     ensures { result.now ≡ foreign_sentence cause }
 {
     match cause {
-        SyntaxCause::OtherComment => b"a comment begins with # and ends with its line",
-        SyntaxCause::Label =>
-            b"a label isn't in the notation, and a definition is written NAME <- EXPRESSION",
-        SyntaxCause::BareEscape => b"an escape stands in a literal or class, as in [\\t]",
+        SyntaxCause::OtherComment => b"a comment begins with #",
+        SyntaxCause::Label => b"there are no labels: give the part a rule of its own",
+        SyntaxCause::BareEscape => b"an escape is written in a literal or a class, as in [\\t]",
         SyntaxCause::Braces => b"a count is written {2} or {2,4}",
-        SyntaxCause::NoBreakSpace => b"a no-break space is no spacing: write a space",
-        SyntaxCause::NoArrow => b"a definition is written NAME <- EXPRESSION",
+        SyntaxCause::NoBreakSpace => b"unexpected '\\xC2\\xA0' (no-break space): write a blank",
         SyntaxCause::Bar => b"alternatives are separated by /, not by |",
         SyntaxCause::Semicolon => b"a definition doesn't end in a semicolon",
         SyntaxCause::EndsEarly
@@ -105,7 +104,35 @@ fn foreign_sentence<'a>(cause: SyntaxCause) -> &'a [u8]
         | SyntaxCause::OpenLiteral
         | SyntaxCause::OpenClass
         | SyntaxCause::BadEscape { .. }
+        | SyntaxCause::NoArrow
         | SyntaxCause::Unexpected => b"",
+    }
+}
+
+// Writes how a definition is written, where it has another arrow.
+fn write_arrow_fault(rest: &[u8], out: &mut Vec<u8>) -> Result<(), AllocError>
+    ensures { OnOk result (out.new.items
+        ≡ out.old.items ++ (codes "a definition is written NAME <- EXPRESSION" ++ arrow_hint rest.now)) }
+{
+    write_two(
+        b"a definition is written NAME <- EXPRESSION",
+        arrow_hint(rest),
+        out,
+    )
+}
+
+// Returns what to write in place of an arrow, if the bytes begin with one of other notations.
+fn arrow_hint(rest: &[u8]) -> &'static [u8]
+    ensures { result.now ≡ arrow_hint rest.now }
+{
+    if byte_at(rest, 1) != b'>' {
+        b""
+    } else if byte_at(rest, 0) == b'-' {
+        b": write <- in place of ->"
+    } else if byte_at(rest, 0) == b'=' {
+        b": write <- in place of =>"
+    } else {
+        b""
     }
 }
 
@@ -123,7 +150,7 @@ fn write_token(file: &[u8], at: u32, out: &mut Vec<u8>) -> Result<(), AllocError
 {
     let name = name_from(bytes_after(file, at as usize));
     if name.is_empty() {
-        return write_found(file, at, out);
+        return write_found(file, at, 0, out);
     }
     out.extend_from_slice(name)
 }

@@ -113,7 +113,8 @@ fn write_printed(byte: u8, out: &mut Vec<u8>) -> Result<(), AllocError>
     write_escape(byte, out)
 }
 
-fn write_escape(byte: u8, out: &mut Vec<u8>) -> Result<(), AllocError>
+/// Writes the escape of a byte.
+pub(crate) fn write_escape(byte: u8, out: &mut Vec<u8>) -> Result<(), AllocError>
     ensures { OnOk result (out.new.items ≡ out.old.items ++ escape_text byte) }
 {
     match byte {

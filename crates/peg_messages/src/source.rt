@@ -63,8 +63,8 @@ fn write_lines(line: &[u8], at: u32, out: &mut Vec<u8>) -> Result<(), AllocError
     out.extend_from_slice(b"^\n")
 }
 
-// Returns an offset of a line, or up to three bytes before it, where a UTF-8 sequence isn't split.
-fn unsplit(line: &[u8], at: usize) -> usize
+/// Returns an offset of a line, or up to three bytes before it, where a UTF-8 sequence isn't split.
+pub(crate) fn unsplit(line: &[u8], at: usize) -> usize
     ensures value { result ≡ unsplit line.now at }
     ensures below { result ≤ at }
 {

@@ -3,7 +3,7 @@ What explain says of example texts that don't match, and of small grammars with 
 A basic string of TOML ends in its line; its characters are all but quotes, backslashes and control bytes.
 
   $ pegtool explain examples/toml.peg examples/toml/match_tables.txt examples/toml/no_match_open_string.txt
-  examples/toml/no_match_open_string.txt:1:12: expected no ["\\\0-\10\12-\37\177], '"' or '\\', found '\n'
+  examples/toml/no_match_open_string.txt:1:12: expected no ["\\\0-\10\12-\37\177], '"' or '\\', found '\n' (line end)
   name = "Tom
              ^
   [1]
@@ -11,7 +11,7 @@ A basic string of TOML ends in its line; its characters are all but quotes, back
 The second line of the log has no date, so a further character of the name or a blank is missing.
 
   $ pegtool explain examples/log.peg examples/log/no_match_second_line.txt
-  examples/log/no_match_second_line.txt:2:5: expected ' ' or [!-~], found '\n'
+  examples/log/no_match_second_line.txt:2:5: expected ' ' or [!-~], found '\n' (line end)
   oops
       ^
   [1]

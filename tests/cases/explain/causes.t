@@ -122,8 +122,14 @@ The signs that other notations have for the arrow are shown with the right form.
   [2]
   $ printf "A -> 'x'" > g
   $ pegtool explain g
-  g:1:3: a definition is written NAME <- EXPRESSION
+  g:1:3: a definition is written NAME <- EXPRESSION: write <- in place of ->
   A -> 'x'
+    ^
+  [2]
+  $ printf "A => 'x'" > g
+  $ pegtool explain g
+  g:1:3: a definition is written NAME <- EXPRESSION: write <- in place of =>
+  A => 'x'
     ^
   [2]
   $ printf "A < 'x'" > g
@@ -161,19 +167,19 @@ Forms of other notations have sentences of their own. A comment of C has the sam
 
   $ printf "/* rules */\nA <- 'x'" > g
   $ pegtool explain g
-  g:1:1: a comment begins with # and ends with its line
+  g:1:1: a comment begins with #
   /* rules */
   ^
   [2]
   $ printf "// rules\nA <- 'x'" > g
   $ pegtool explain g
-  g:1:1: a comment begins with # and ends with its line
+  g:1:1: a comment begins with #
   // rules
   ^
   [2]
   $ printf "A <- 'x' /* an x */" > g
   $ pegtool explain g
-  g:1:11: a comment begins with # and ends with its line
+  g:1:11: a comment begins with #
   A <- 'x' /* an x */
             ^
   [2]
@@ -191,7 +197,7 @@ A name with a colon is a label of PEG.js, unless a blank follows.
 
   $ printf "A <- first:'x'" > g
   $ pegtool explain g
-  g:1:11: a label isn't in the notation, and a definition is written NAME <- EXPRESSION
+  g:1:11: there are no labels: give the part a rule of its own
   A <- first:'x'
             ^
   [2]
@@ -206,7 +212,7 @@ A backslash begins no token outside literals and classes, and braces hold only c
 
   $ printf 'A <- \\d+' > g
   $ pegtool explain g
-  g:1:6: an escape stands in a literal or class, as in [\t]
+  g:1:6: an escape is written in a literal or a class, as in [\t]
   A <- \d+
        ^
   [2]
@@ -227,6 +233,6 @@ A no-break space looks like a space, so it is named.
 
   $ printf "A <-\302\240'x'" > g
   $ pegtool explain g | cat -A
-  g:1:5: a no-break space is no spacing: write a space$
+  g:1:5: unexpected '\xC2\xA0' (no-break space): write a blank$
   A <-M-BM- 'x'$
       ^$

@@ -13,9 +13,85 @@ A tab that is found is written as an escape, and in the line as it is.
 
   $ printf "S <- 'a' 'a'" > g; printf 'a\tb' > t
   $ pegtool explain g t | cat -A
-  t:1:2: expected 'a', found '\t'$
+  t:1:2: expected 'a', found '\t' (tab)$
   a^Ib$
    ^$
+
+A line end is named, and one of two bytes is one character. So are other characters that can't be seen, by the names of
+the Unicode standard, and characters that look like those of ASCII. The escapes of UTF-8 are by RFC 3629.
+
+  $ printf "S <- 'a' 'b'" > g; printf 'a\n' > t
+  $ pegtool explain g t
+  t:1:2: expected 'b', found '\n' (line end)
+  a
+   ^
+  [1]
+  $ printf 'a\r\n' > t
+  $ pegtool explain g t
+  t:1:2: expected 'b', found '\r\n' (line end)
+  a
+   ^
+  [1]
+  $ printf 'a\rb' > t
+  $ pegtool explain g t
+  t:1:2: expected 'b', found '\r' (carriage return)
+  a
+   ^
+  [1]
+  $ printf 'a\302\240b' > t
+  $ pegtool explain g t | head -n 1
+  t:1:2: expected 'b', found '\xC2\xA0' (no-break space)
+  $ printf 'a\342\200\213b' > t
+  $ pegtool explain g t | head -n 1
+  t:1:2: expected 'b', found '\xE2\x80\x8B' (zero width space)
+  $ printf '\357\273\277ab' > t
+  $ pegtool explain g t | head -n 1
+  t:1:1: expected 'a', found '\xEF\xBB\xBF' (byte order mark)
+  $ printf 'a\342\200\234' > t
+  $ pegtool explain g t | head -n 1 | cat -A
+  t:1:2: expected 'b', found 'M-bM-^@M-^\' (left double quotation mark)$
+  $ printf 'a\342\200\223' > t
+  $ pegtool explain g t | head -n 1 | cat -A
+  t:1:2: expected 'b', found 'M-bM-^@M-^S' (en dash)$
+
+Where a literal is expected that begins with the same letter, in either case, as much of the text is shown as the
+longest such literal has bytes, up to a blank.
+
+  $ printf "S <- 'returns' / 'return' / 'value'" > g; printf 'retuns x' > t
+  $ pegtool explain g t
+  t:1:1: expected 'returns', 'return' or 'value', found 'retuns'
+  retuns x
+  ^
+  [1]
+  $ printf 'Returning' > t
+  $ pegtool explain g t | head -n 1
+  t:1:1: expected 'returns', 'return' or 'value', found 'Returni'
+  $ printf 'vXlue' > t
+  $ pegtool explain g t | head -n 1
+  t:1:1: expected 'returns', 'return' or 'value', found 'vXlue'
+  $ printf 'x' > t
+  $ pegtool explain g t | head -n 1
+  t:1:1: expected 'returns', 'return' or 'value', found 'x'
+
+A character of UTF-8 is never cut: `é` has two bytes (RFC 3629), so four bytes of `abcé` are `abc`. A word of one
+character is written as a character alone. A literal without a first byte in common leaves one character, and so does a
+class.
+
+  $ printf "S <- 'abcd'" > g; printf 'abc\303\251' > t
+  $ pegtool explain g t | head -n 1
+  t:1:1: expected 'abcd', found 'abc'
+  $ printf "S <- 'a\303\251x'" > g; printf 'a\303\251y' > t
+  $ pegtool explain g t | head -n 1 | cat -A
+  t:1:1: expected 'aM-CM-)x', found 'aM-CM-)y'$
+  $ printf "S <- 'ab'" > g; printf 'a b' > t
+  $ pegtool explain g t | head -n 1
+  t:1:1: expected 'ab', found 'a'
+  $ printf "S <- '\"proto3\"'" > g; printf '"proto2";' > t
+  $ pegtool explain g t | head -n 1
+  t:1:1: expected '"proto3"', found '"proto2"'
+  $ printf "S <- [a-f] / 'xyz'" > g; printf 'zabc' > t
+  $ pegtool explain --terminals g t | head -n 1
+  t:1:1: expected [a-f] or 'xyz', found 'z'
 
 A quote and a backslash are escaped within the quotes, and a double quote isn't.
 

@@ -52,13 +52,13 @@ A line end belongs to the line that it ends, and it is written as an escape.
 
   $ printf "S <- 'ab' 'a'" > g; printf 'ab\ncd' > t
   $ pegtool explain g t
-  t:1:3: expected 'a', found '\n'
+  t:1:3: expected 'a', found '\n' (line end)
   ab
     ^
   [1]
   $ printf "S <- 'ab' 'a'" > g; printf 'ab\r\ncd' > t
   $ pegtool explain g t
-  t:1:3: expected 'a', found '\r'
+  t:1:3: expected 'a', found '\r\n' (line end)
   ab
     ^
   [1]
@@ -67,7 +67,7 @@ Between CR and LF the position is still in the line, after its CR.
 
   $ printf "S <- 'ab\\\\r' 'a'" > g; printf 'ab\r\ncd' > t
   $ pegtool explain g t
-  t:1:4: expected 'a', found '\n'
+  t:1:4: expected 'a', found '\n' (line end)
   ab
     ^
   [1]
