@@ -22,7 +22,7 @@ The keyword is no name; the blank after it fails further on, but within the pred
   t:1:15: expected no K in N or ' ' in S, found 'S'
   t:1:15: expected no K in N or ' ' in S, found 'S'
 
-Of FRO the last byte of the literal fails at position 12, but the literal counts at 9.
+Of FRO the last byte of the literal fails at position 12, but the literal counts at 9. FRO is found up to the blank.
 
   $ printf '' > t
   $ for n in 0 1 4096; do pegtool explain g t --terminals --rules --memo $n; done | grep expected
@@ -31,9 +31,9 @@ Of FRO the last byte of the literal fails at position 12, but the literal counts
   t:1:1: expected 'SELECT' in SELECT, found the end
   $ printf 'SELECT a FRO t' > t
   $ for n in 0 1 4096; do pegtool explain g t --terminals --rules --memo $n; done | grep expected
-  t:1:10: expected 'FROM' in FROM or ' ' in S, found 'F'
-  t:1:10: expected 'FROM' in FROM or ' ' in S, found 'F'
-  t:1:10: expected 'FROM' in FROM or ' ' in S, found 'F'
+  t:1:10: expected 'FROM' in FROM or ' ' in S, found 'FRO'
+  t:1:10: expected 'FROM' in FROM or ' ' in S, found 'FRO'
+  t:1:10: expected 'FROM' in FROM or ' ' in S, found 'FRO'
   $ printf 'SELECT 1 FROM t' > t
   $ for n in 0 1 4096; do pegtool explain g t --terminals --rules --memo $n; done | grep expected
   t:1:8: expected [A-Za-z] in N or ' ' in S, found '1'

@@ -1,6 +1,7 @@
 Predicates as items of explain: a predicate is one item at its own start, and what fails within it doesn't count.
 
-The predicate fails at position 2 where c follows, and the literal `'ab'` fails at its start.
+The predicate fails at position 2 where c follows, and the literal `'ab'` fails at its start. It has
+two bytes, and so has what is found.
 
   $ printf "S <- 'ab' !'c' ." > g; printf abc > t
   $ for n in 0 1 4096; do pegtool explain g t --terminals --rules --memo $n; done | grep expected
@@ -9,9 +10,9 @@ The predicate fails at position 2 where c follows, and the literal `'ab'` fails 
   t:1:3: expected no 'c' in S, found 'c'
   $ printf ax > t
   $ for n in 0 1 4096; do pegtool explain g t --terminals --rules --memo $n; done | grep expected
-  t:1:1: expected 'ab' in S, found 'a'
-  t:1:1: expected 'ab' in S, found 'a'
-  t:1:1: expected 'ab' in S, found 'a'
+  t:1:1: expected 'ab' in S, found 'ax'
+  t:1:1: expected 'ab' in S, found 'ax'
+  t:1:1: expected 'ab' in S, found 'ax'
 
 At the end of the text the dot fails; c fails there, too, but within the predicate.
 
