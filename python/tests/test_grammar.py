@@ -148,8 +148,8 @@ class Parses(unittest.TestCase):
             grammar.parse("if", name="a:1:1: b.txt")
         error = caught.exception
         self.assertEqual((error.position, error.expected, error.found), (0, ["no B"], "'i'"))
-        self.assertEqual(error.message, "expected no B, found 'i'")
-        self.assertEqual(str(error), "a:1:1: b.txt:1:1: expected no B, found 'i'\nif\n^")
+        self.assertEqual(error.message, "expected something other than B, found 'i'")
+        self.assertEqual(str(error), "a:1:1: b.txt:1:1: expected something other than B, found 'i'\nif\n^")
         with self.assertRaises(ParseError) as caught:
             grammar.parse("ab")
         self.assertEqual((caught.exception.position, caught.exception.expected), (1, ["the end"]))

@@ -59,9 +59,9 @@ fn items_of_no_grammar_are_written(rt: HostRuntime) -> Result<(), Fail> {
         (
             b"!!'x'",
             &[plain],
-            b"t:1:1: expected no !'x', found 'z'\nz\n^\n",
+            b"t:1:1: expected something other than !'x', found 'z'\nz\n^\n",
         ),
-        (b"!", &[plain], b"t:1:1: expected no , found 'z'\nz\n^\n"),
+        (b"!", &[plain], b"t:1:1: expected something other than , found 'z'\nz\n^\n"),
         (b"", &[plain], b"t:1:1: expected , found 'z'\nz\n^\n"),
         (
             b"'a'",

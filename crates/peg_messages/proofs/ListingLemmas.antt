@@ -1,5 +1,5 @@
 -- Texts one by one.
-use Rattle.std.proofs.Common.{◌≡◌, ℕ, zero, suc, ◌+◌, ◌-◌, ◌<◌, ◌≤◌, Bool, true, false, not, ◌||◌, if◌then◌else◌}
+use Rattle.std.proofs.Common.{◌≡◌, ℕ, zero, suc, ◌+◌, ◌-◌, ◌^◌, ◌<◌, ◌≤◌, Bool, true, false, not, ◌||◌, if◌then◌else◌}
 use Rattle.std.proofs.Common.{List, [], ◌∷◌, ◌++◌, length, take, append-nil, append_assoc}
 use Rattle.std.proofs.Common.{refl, sym, ap, ◌∙◌, arith, lit≤}
 use Rattle.std.proofs.lemmas.List.{length_push}
@@ -8,7 +8,8 @@ use Rattle.std.proofs.lemmas.Slice.Eq.{bytes_eq-Decides}
 use Rattle.std.specs.List.{filter}
 use Rattle.std.specs.Str.{bytes_eq}
 use Rattle.peg_messages.specs.Listing.{distinct, first_texts, is_among, other_count}
-use Rattle.peg_messages.specs.Listings.{IsListing}
+use Rattle.peg_messages.specs.Listings.{IsListed, IsListing, bytes_of_each}
+use Rattle.peg_messages.specs.declared.listing.Listing.{Listing}
 
 -- the texts of a list that are none of the first different texts of all
 abbrev pub others_in : (all rest : List (List ℕ)) → List (List ℕ)
@@ -129,3 +130,16 @@ IsListing-end texts all more so = (
   sym (append-nil texts) ∙ (ap (λ l. texts ++ l) (sym (take-nil (64 - length texts))) ∙ so.kept),
   omega (arith, so.others),
 )
+
+-- nothing is left to be listed
+pub IsListed-end : (listing : Listing) (all : List (List ℕ))
+    → IsListing (bytes_of_each listing.kept.items) listing.others [] all → listing.others ≤ 2 ^ 34
+    → length listing.kept.items ≤ 64 → IsListed all listing
+IsListed-end listing all so bound few =
+    let texts = bytes_of_each listing.kept.items in
+    record {
+      texts = sym (ap (λ l. texts ++ l) (take-nil {X = List ℕ} (64 - length texts)) ∙ append-nil texts) ∙ so.kept;
+      others = omega (arith, so.others);
+      few = few;
+      bound = bound;
+    }

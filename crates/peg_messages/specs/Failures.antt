@@ -1,26 +1,27 @@
 -- The message for a text that doesn't match.
-use Rattle.std.specs.Prelude.{ℕ, not, nat_lt, if◌then◌else◌, List, ◌++◌, codes, filter, length, map, slice_index}
+use Rattle.std.specs.Prelude.{ℕ, nat_lt, if◌then◌else◌, List, ◌++◌, codes, filter, length, map, slice_index}
 use Rattle.peg_messages.specs.Ends.{end_texts}
 use Rattle.peg_messages.specs.Found.{found_text, longest_room}
-use Rattle.peg_messages.specs.Items.{is_end_item, item_text}
+use Rattle.peg_messages.specs.Items.{is_group, item_group, item_text}
 use Rattle.peg_messages.specs.Listing.{listed}
 use Rattle.peg_messages.specs.Places.{place_text}
 use Rattle.peg_messages.specs.Source.{source_lines}
 use Rattle.peg_messages.specs.declared.failure.Failure.{Failure}
 use Rattle.peg_messages.specs.declared.items.Item.{Item}
+use Rattle.peg_messages.specs.declared.items.ItemGroup.{ItemGroup}
+use Rattle.peg_messages.specs.declared.items.ItemGroup.TheVariants.{End, Other, Plain}
 
--- the items that expect the end, and the other ones, each in order
-abbrev pub end_items : Failure → List Item
-end_items failure = filter (is_end_item failure.grammar.now) failure.expected.now
+-- the items of a group, in order, as they are written
+abbrev pub group_texts : (group : ItemGroup) → (grammar : List ℕ) → List Item → List (List ℕ)
+group_texts group grammar items =
+    map (item_text grammar) (filter (λ item. is_group (item_group grammar item) group) items)
 
-abbrev pub other_items : Failure → List Item
-other_items failure = filter (λ item. not (is_end_item failure.grammar.now item)) failure.expected.now
-
--- what is expected: the end first, so that no number of other items hides it, and then the other items
+-- What is expected. The end is first, so that no number of other items hides it. What must not follow is last.
 abbrev pub expected_texts : Failure → List (List ℕ)
 expected_texts failure =
-    end_texts failure.is_end_expected ++ (map (item_text failure.grammar.now) (end_items failure)
-    ++ map (item_text failure.grammar.now) (other_items failure))
+    end_texts failure.is_end_expected ++ (group_texts End failure.grammar.now failure.expected.now
+    ++ (group_texts Plain failure.grammar.now failure.expected.now
+    ++ group_texts Other failure.grammar.now failure.expected.now))
 
 -- how many bytes of a word are shown as found: as many as the longest expected literal that begins like it has
 abbrev pub found_room : Failure → ℕ

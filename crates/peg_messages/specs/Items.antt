@@ -1,5 +1,5 @@
 -- What is expected at a position, as it is written in a message.
-use Rattle.std.specs.Prelude.{ℕ, ◌==◌, Bool, false, ◌&&◌, if◌then◌else◌, List, [], ◌∷◌, ◌++◌, Option, None, Some}
+use Rattle.std.specs.Prelude.{ℕ, ◌==◌, Bool, false, true, if◌then◌else◌, List, [], ◌∷◌, ◌++◌, Option, None, Some}
 use Rattle.std.specs.Prelude.{codes, slice_range}
 use Rattle.std.specs.Option.{option_map}
 use Rattle.std.specs.Str.{bytes_eq}
@@ -8,6 +8,8 @@ use Rattle.peg_messages.specs.Blanks.{after_blanks}
 use Rattle.peg_messages.specs.Shown.{shown}
 use Rattle.peg_messages.specs.declared.shown.Style.TheVariants.{Spelling}
 use Rattle.peg_messages.specs.declared.items.Item.{Item}
+use Rattle.peg_messages.specs.declared.items.ItemGroup.{ItemGroup}
+use Rattle.peg_messages.specs.declared.items.ItemGroup.TheVariants.{End, Other, Plain}
 
 -- the bytes of a file in an extent
 abbrev pub span_bytes : (file : List ℕ) → Extent → List ℕ
@@ -16,21 +18,36 @@ span_bytes file span = slice_range file span.start span.end
 -- what a predicate `!e` expects, by the bytes of e: `!.` expects the end
 abbrev pub negated_text : List ℕ → List ℕ
 negated_text operand =
-    if bytes_eq operand (codes ".") then codes "the end" else codes "no " ++ shown Spelling operand
+    if bytes_eq operand (codes ".") then codes "the end" else codes "something other than " ++ shown Spelling operand
+
+-- an expression that isn't such a predicate: a dot is any byte
+abbrev pub plain_text : List ℕ → List ℕ
+plain_text bytes = if bytes_eq bytes (codes ".") then codes "any byte" else shown Spelling bytes
 
 -- an expression, by its bytes in the grammar file; 33 is the byte `!`
 abbrev pub spelling_text : List ℕ → List ℕ
 spelling_text [] = []
-spelling_text (byte ∷ rest) = if byte == 33 then negated_text (after_blanks rest) else shown Spelling (byte ∷ rest)
+spelling_text (byte ∷ rest) = if byte == 33 then negated_text (after_blanks rest) else plain_text (byte ∷ rest)
 
--- the bytes of an expression are the predicate `!.`, which expects the end
-abbrev pub is_end_spelling : List ℕ → Bool
-is_end_spelling [] = false
-is_end_spelling (byte ∷ rest) = byte == 33 && bytes_eq (after_blanks rest) (codes ".")
+-- What an expression expects, by its bytes: `!.` expects the end, `!e` something other than e, and all others
+-- themselves.
+abbrev pub negated_group : (operand : List ℕ) → ItemGroup
+negated_group operand = if bytes_eq operand (codes ".") then End else Other
 
--- an item of a grammar file is the predicate `!.`
-abbrev pub is_end_item : (grammar : List ℕ) → Item → Bool
-is_end_item grammar item = is_end_spelling (span_bytes grammar (extent item.span))
+abbrev pub spelling_group : List ℕ → ItemGroup
+spelling_group [] = Plain
+spelling_group (byte ∷ rest) = if byte == 33 then negated_group (after_blanks rest) else Plain
+
+-- the same for an item of a grammar file
+abbrev pub item_group : (grammar : List ℕ) → Item → ItemGroup
+item_group grammar item = spelling_group (span_bytes grammar (extent item.span))
+
+-- whether two groups are the same
+abbrev pub is_group : (a b : ItemGroup) → Bool
+is_group End End = true
+is_group Plain Plain = true
+is_group Other Other = true
+is_group a b = false
 
 -- an item by its name if it has one, otherwise by its bytes in the grammar file
 abbrev pub named_text : (spelling : List ℕ) → (name : Option (List ℕ)) → List ℕ

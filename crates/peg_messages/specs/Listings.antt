@@ -20,4 +20,4 @@ pub record IsListed (all : List (List ℕ)) (listing : Listing) : Type 0 where
   pub texts : bytes_of_each listing.kept.items ≡ first_texts all
   pub others : listing.others ≡ other_count all
   pub few : length listing.kept.items ≤ 64
-  pub bound : listing.others ≤ 2 ^ 33
+  pub bound : listing.others ≤ 2 ^ 34

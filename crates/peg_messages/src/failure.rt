@@ -5,7 +5,7 @@ ghost use Rattle.peg_messages.specs.Ends.{end_texts};
 ghost use Rattle.peg_messages.specs.Listings.{IsListing, bytes_of_each};
 
 use crate::found::{longest_room, write_found};
-use crate::items::{Item, is_end_item, item_text};
+use crate::items::{Item, ItemGroup, is_in_group, item_text};
 use crate::listing::Listing;
 use crate::numbers::write_place;
 use crate::source::write_source;
@@ -28,17 +28,18 @@ pub struct Failure<'a> {
 }
 
 impl Failure<'_> {
-    ghost use Rattle.peg_messages.specs.Failures.{expected_texts, failure_message, found_room};
+    ghost use Rattle.peg_messages.specs.Failures.{expected_texts, failure_message, found_room, group_texts};
     ghost use Rattle.peg_messages.specs.Listing.{listed};
     ghost use Rattle.peg_messages.specs.Listings.{IsListed};
 
     /// Appends the message for a failure: `NAME:LINE:COLUMN: expected A, B or C, found 'D'`, then the line of the
     /// position and a caret below the position. Each line ends with LF.
     ///
-    /// An item is written as in the grammar file. The predicate `!e` is written `no e`, and `!.` is `the end`, like the
-    /// end of the text if it is expected. The end is written first, so that no number of other items hides it. Equal
-    /// items are written once, and at most eight are written; then `N more` counts the others. An item is compared only
-    /// with the first 64 different ones. Further items are counted each.
+    /// An item is written as in the grammar file. A dot is written `any byte`. The predicate `!e` is written `something
+    /// other than e`, after all others. `!.` is `the end`, like the end of the text if it is expected. The end is written
+    /// first, so that no number of other items hides it. Equal items are written once, and at most eight are written;
+    /// then `N more` counts the others. An item is compared only with the first 64 different ones. Further items are
+    /// counted each.
     ///
     /// If literals are expected that begin with the same letter as the text, in either case, the text is shown up to the
     /// length of the longest one, or up to a blank. Otherwise one character is shown. A character that can't be seen, or
@@ -121,23 +122,38 @@ impl Failure<'_> {
     {
         let mut listing = Listing::new(alloc);
         add_end(alloc, self.is_end_expected, &mut listing)?;
-        'ends: for item in self.expected {
-            if is_end_item(self.grammar, item) {
-                listing.add(item_text(alloc, self.grammar, item)?)?;
-            }
-        }
-        'others: for item in self.expected {
-            if !is_end_item(self.grammar, item) {
-                listing.add(item_text(alloc, self.grammar, item)?)?;
-            }
-        }
+        self.add_group(alloc, ItemGroup::End, &mut listing)?;
+        self.add_group(alloc, ItemGroup::Plain, &mut listing)?;
+        self.add_group(alloc, ItemGroup::Other, &mut listing)?;
         Ok(listing)
+    }
+
+    // Adds the items of a group to the list, in order.
+    fn add_group(
+        &self,
+        alloc: Global,
+        group: ItemGroup,
+        listing: &mut Listing,
+    ) -> Result<(), AllocError>
+        requires { listing.old.others + length self.now.expected.now ≤ 2 ^ 34 }
+        ensures listing { OnOk result ((rest all : List (List ℕ))
+            → IsListing (bytes_of_each listing.old.kept.items) listing.old.others
+            (group_texts group self.now.grammar.now self.now.expected.now ++ rest) all
+            → IsListing (bytes_of_each listing.new.kept.items) listing.new.others rest all) }
+        ensures others { listing.new.others ≤ listing.old.others + length self.now.expected.now }
+    {
+        'items: for item in self.expected {
+            if is_in_group(self.grammar, item, group) {
+                listing.add(item_text(alloc, self.grammar, item)?)?;
+            }
+        }
+        Ok(())
     }
 }
 
 // Adds the end of the text, if it is expected.
 fn add_end(alloc: Global, is_expected: bool, listing: &mut Listing) -> Result<(), AllocError>
-    requires { listing.old.others < 2 ^ 33 }
+    requires { listing.old.others < 2 ^ 34 }
     ensures listing { OnOk result ((rest all : List (List ℕ))
         → IsListing (bytes_of_each listing.old.kept.items) listing.old.others (end_texts is_expected ++ rest) all
         → IsListing (bytes_of_each listing.new.kept.items) listing.new.others rest all) }

@@ -2,8 +2,11 @@
 ghost use Rattle.std.specs.Prelude.{◌≡◌, ◌++◌, IfOk, OnOk};
 ghost use Rattle.std.specs.Option.{option_map};
 ghost use Rattle.peg_bytes.specs.Extent.{extent};
-ghost use Rattle.peg_messages.specs.Items.{is_end_item, item_text, named_text, negated_text, rule_text, span_bytes};
+ghost use Rattle.peg_messages.specs.Items.{is_group, item_group, item_text, named_text, negated_group};
+ghost use Rattle.peg_messages.specs.Items.{negated_text, plain_text, rule_text, span_bytes, spelling_group};
 ghost use Rattle.peg_messages.specs.Items.{spelling_text};
+ghost use Rattle.peg_messages.specs.Shown.{shown};
+ghost use Rattle.peg_messages.specs.declared.shown.Style.TheVariants.{Spelling};
 
 use crate::blanks::after_blanks;
 use crate::shown::{Style, write_shown};
@@ -22,13 +25,54 @@ pub struct Item<'a> {
     pub name: Option<&'a str>,
 }
 
-/// Returns whether an item is the predicate `!.`, which expects the end. Takes time linear in its span.
-pub(crate) fn is_end_item(grammar: &[u8], item: &Item<'_>) -> bool
-    ensures { result ≡ is_end_item grammar.now item.now }
+/// What an item expects. The items of a group are written together.
+#[derive(Clone, Copy, Debug, PartialEq, Eq)]
+pub(crate) enum ItemGroup {
+    /// The predicate `!.` expects the end.
+    End,
+    /// A terminal, or a predicate `&e`, expects itself.
+    Plain,
+    /// A predicate `!e` expects something other than e.
+    Other,
+}
+
+/// Returns whether an item is in a group. Takes time linear in its span.
+pub(crate) fn is_in_group(grammar: &[u8], item: &Item<'_>, group: ItemGroup) -> bool
+    ensures { result ≡ is_group (item_group grammar.now item.now) group }
 {
-    match span_bytes(grammar, item.span) {
-        [b'!', rest @ ..] => after_blanks(rest) == b".".as_slice(),
-        _ => false,
+    is_group(spelling_group(span_bytes(grammar, item.span)), group)
+}
+
+// Returns whether two groups are the same.
+fn is_group(a: ItemGroup, b: ItemGroup) -> bool
+    ensures { result ≡ is_group a b }
+{
+    matches!(
+        (a, b),
+        (ItemGroup::End, ItemGroup::End)
+            | (ItemGroup::Plain, ItemGroup::Plain)
+            | (ItemGroup::Other, ItemGroup::Other)
+    )
+}
+
+// Returns what an expression expects, by its bytes.
+fn spelling_group(bytes: &[u8]) -> ItemGroup
+    ensures { result ≡ spelling_group bytes.now }
+{
+    match bytes {
+        [b'!', rest @ ..] => negated_group(after_blanks(rest)),
+        _ => ItemGroup::Plain,
+    }
+}
+
+// Returns what a predicate expects, by the bytes of its operand.
+fn negated_group(operand: &[u8]) -> ItemGroup
+    ensures { result ≡ negated_group operand.now }
+{
+    if operand == b".".as_slice() {
+        ItemGroup::End
+    } else {
+        ItemGroup::Other
     }
 }
 
@@ -84,8 +128,18 @@ fn write_spelling(bytes: &[u8], out: &mut Vec<u8>) -> Result<(), AllocError>
 {
     match bytes {
         [b'!', rest @ ..] => write_negated(after_blanks(rest), out),
-        _ => write_shown(Style::Spelling, bytes, out),
+        _ => write_plain(bytes, out),
     }
+}
+
+// Writes an expression that isn't such a predicate. A dot is any byte.
+fn write_plain(bytes: &[u8], out: &mut Vec<u8>) -> Result<(), AllocError>
+    ensures { OnOk result (out.new.items ≡ out.old.items ++ plain_text bytes.now) }
+{
+    if bytes == b".".as_slice() {
+        return out.extend_from_slice(b"any byte");
+    }
+    write_shown(Style::Spelling, bytes, out)
 }
 
 // Writes what a predicate expects, by the bytes of its operand.
@@ -95,6 +149,13 @@ fn write_negated(operand: &[u8], out: &mut Vec<u8>) -> Result<(), AllocError>
     if operand == b".".as_slice() {
         return out.extend_from_slice(b"the end");
     }
-    out.extend_from_slice(b"no ")?;
-    write_shown(Style::Spelling, operand, out)
+    write_after(b"something other than ", operand, out)
+}
+
+// Writes words and an expression after them.
+fn write_after(words: &[u8], expression: &[u8], out: &mut Vec<u8>) -> Result<(), AllocError>
+    ensures { OnOk result (out.new.items ≡ out.old.items ++ (words.now ++ shown Spelling expression.now)) }
+{
+    out.extend_from_slice(words)?;
+    write_shown(Style::Spelling, expression, out)
 }

@@ -36,7 +36,7 @@ impl Listing {
 
     /// Adds a text. Takes time linear in the text and in the first 64 different texts.
     pub(crate) fn add(&mut self, text: Vec<u8>) -> Result<(), AllocError>
-        requires { self.old.others < 2 ^ 33 }
+        requires { self.old.others < 2 ^ 34 }
         ensures listing { OnOk result ((rest all : List (List ℕ))
             → IsListing (bytes_of_each self.old.kept.items) self.old.others (text.items ∷ rest) all
             → IsListing (bytes_of_each self.new.kept.items) self.new.others rest all) }
@@ -56,7 +56,7 @@ impl Listing {
     /// Writes the list. Takes time linear in what is written.
     pub(crate) fn write(self, alloc: Global, out: &mut Vec<u8>) -> Result<(), AllocError>
         requires kept { length self.kept.items ≤ 64 }
-        requires others { self.others ≤ 2 ^ 33 }
+        requires others { self.others ≤ 2 ^ 34 }
         ensures { OnOk result (out.new.items
             ≡ out.old.items ++ joined (alternatives (bytes_of_each self.kept.items) self.others)) }
     {

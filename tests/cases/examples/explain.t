@@ -3,7 +3,7 @@ What explain says of example texts that don't match, and of small grammars with 
 A basic string of TOML ends in its line; its characters are all but quotes, backslashes and control bytes.
 
   $ pegtool explain examples/toml.peg examples/toml/match_tables.txt examples/toml/no_match_open_string.txt
-  examples/toml/no_match_open_string.txt:1:12: expected no ["\\\0-\10\12-\37\177], '"' or '\\', found '\n' (line end)
+  examples/toml/no_match_open_string.txt:1:12: expected '"', '\\' or something other than ["\\\0-\10\12-\37\177], found '\n' (line end)
   name = "Tom
              ^
   [1]

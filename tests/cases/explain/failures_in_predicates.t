@@ -15,7 +15,7 @@ In the predicate `'c'` fails at the third byte, but outside `'d'` fails at the s
 The predicate finds its part, so it is what isn't expected at the start.
 
   $ printf abc > t.txt; pegtool explain guarded.peg t.txt
-  t.txt:1:1: expected no ('a' 'b' 'c'), found 'a'
+  t.txt:1:1: expected something other than ('a' 'b' 'c'), found 'a'
   abc
   ^
   [1]

@@ -1,4 +1,4 @@
-How explain writes one item: as in the grammar file, with escapes for other bytes, and a predicate as `no`.
+How explain writes one item: as in the grammar file, with escapes for other bytes, but for a dot and for predicates.
 
 With --terminals a class and a dot are written as in the file, as a literal always is.
 
@@ -22,11 +22,11 @@ With --terminals a class and a dot are written as in the file, as a literal alwa
   [1]
   $ printf 'S <- .' > g; printf '' > t
   $ pegtool explain g t --terminals | cat -A
-  t:1:1: expected ., found the end$
+  t:1:1: expected any byte, found the end$
   $
   ^$
 
-A predicate `&e` is written as it is, and `!e` as `no e`.
+A predicate `&e` is written as it is, and `!e` as `something other than e`.
 
   $ printf "S <- &'x'" > g; printf z > t
   $ pegtool explain g t
@@ -36,7 +36,7 @@ A predicate `&e` is written as it is, and `!e` as `no e`.
   [1]
   $ printf "S <- !'x'" > g; printf x > t
   $ pegtool explain g t
-  t:1:1: expected no 'x', found 'x'
+  t:1:1: expected something other than 'x', found 'x'
   x
   ^
   [1]
@@ -45,13 +45,13 @@ Blanks and comments between the sign and its part are left out.
 
   $ printf "S <- ! \t'x'" > g; printf x > t
   $ pegtool explain g t
-  t:1:1: expected no 'x', found 'x'
+  t:1:1: expected something other than 'x', found 'x'
   x
   ^
   [1]
   $ printf "S <- !# a comment\r\n# and one more\n 'x'" > g; printf x > t
   $ pegtool explain g t
-  t:1:1: expected no 'x', found 'x'
+  t:1:1: expected something other than 'x', found 'x'
   x
   ^
   [1]
@@ -75,7 +75,7 @@ Only the first sign is written as no; the second one needs parentheses in the no
 
   $ printf "S <- !(!'x')" > g; printf z > t
   $ pegtool explain g t
-  t:1:1: expected no (!'x'), found 'z'
+  t:1:1: expected something other than (!'x'), found 'z'
   z
   ^
   [1]

@@ -13,14 +13,14 @@ The keyword is no name; the blank after it fails further on, but within the pred
   > END
   $ printf 'SELECT FROM t' > t
   $ for n in 0 1 4096; do pegtool explain g t --terminals --rules --memo $n; done | grep expected
-  t:1:8: expected no K in N or ' ' in S, found 'F'
-  t:1:8: expected no K in N or ' ' in S, found 'F'
-  t:1:8: expected no K in N or ' ' in S, found 'F'
+  t:1:8: expected ' ' in S or something other than K in N, found 'F'
+  t:1:8: expected ' ' in S or something other than K in N, found 'F'
+  t:1:8: expected ' ' in S or something other than K in N, found 'F'
   $ printf 'SELECT a FROM SELECT' > t
   $ for n in 0 1 4096; do pegtool explain g t --terminals --rules --memo $n; done | grep expected
-  t:1:15: expected no K in N or ' ' in S, found 'S'
-  t:1:15: expected no K in N or ' ' in S, found 'S'
-  t:1:15: expected no K in N or ' ' in S, found 'S'
+  t:1:15: expected ' ' in S or something other than K in N, found 'S'
+  t:1:15: expected ' ' in S or something other than K in N, found 'S'
+  t:1:15: expected ' ' in S or something other than K in N, found 'S'
 
 Of FRO the last byte of the literal fails at position 12, but the literal counts at 9. FRO is found up to the blank.
 
@@ -79,7 +79,7 @@ From the rule N the keyword is no name at position 0.
 
   $ printf FROM > t
   $ pegtool explain g t --start N --terminals --rules --memo 0
-  t:1:1: expected no K in N, found 'F'
+  t:1:1: expected something other than K in N, found 'F'
   FROM
   ^
   [1]

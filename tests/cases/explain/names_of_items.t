@@ -105,7 +105,7 @@ In an open comment any byte is expected, not only another comment: the dot is th
 
   $ printf "Comment <- '(;' (Comment / !';)' .)* ';)'" > g; printf '(;a' > t
   $ pegtool explain g t
-  t:1:4: expected '(;', . or ';)', found the end
+  t:1:4: expected '(;', any byte or ';)', found the end
   (;a
      ^
   [1]

@@ -5,9 +5,9 @@ two bytes, and so has what is found.
 
   $ printf "S <- 'ab' !'c' ." > g; printf abc > t
   $ for n in 0 1 4096; do pegtool explain g t --terminals --rules --memo $n; done | grep expected
-  t:1:3: expected no 'c' in S, found 'c'
-  t:1:3: expected no 'c' in S, found 'c'
-  t:1:3: expected no 'c' in S, found 'c'
+  t:1:3: expected something other than 'c' in S, found 'c'
+  t:1:3: expected something other than 'c' in S, found 'c'
+  t:1:3: expected something other than 'c' in S, found 'c'
   $ printf ax > t
   $ for n in 0 1 4096; do pegtool explain g t --terminals --rules --memo $n; done | grep expected
   t:1:1: expected 'ab' in S, found 'ax'
@@ -18,9 +18,9 @@ At the end of the text the dot fails; c fails there, too, but within the predica
 
   $ printf ab > t
   $ for n in 0 1 4096; do pegtool explain g t --terminals --rules --memo $n; done | grep expected
-  t:1:3: expected . in S, found the end
-  t:1:3: expected . in S, found the end
-  t:1:3: expected . in S, found the end
+  t:1:3: expected any byte in S, found the end
+  t:1:3: expected any byte in S, found the end
+  t:1:3: expected any byte in S, found the end
 
 On abd only c fails, within the predicate, and the text matches.
 
@@ -33,14 +33,14 @@ The rule K is called in a predicate alone, so its literal is no item that fails.
 
   $ printf "S <- !K I    K <- 'if'    I <- .+" > g; printf if > t
   $ for n in 0 1 4096; do pegtool explain g t --terminals --rules --memo $n; done | grep expected
-  t:1:1: expected no K in S, found 'i'
-  t:1:1: expected no K in S, found 'i'
-  t:1:1: expected no K in S, found 'i'
+  t:1:1: expected something other than K in S, found 'i'
+  t:1:1: expected something other than K in S, found 'i'
+  t:1:1: expected something other than K in S, found 'i'
   $ printf '' > t
   $ for n in 0 1 4096; do pegtool explain g t --terminals --rules --memo $n; done | grep expected
-  t:1:1: expected . in I, found the end
-  t:1:1: expected . in I, found the end
-  t:1:1: expected . in I, found the end
+  t:1:1: expected any byte in I, found the end
+  t:1:1: expected any byte in I, found the end
+  t:1:1: expected any byte in I, found the end
 
 On ix the literal of K fails within the predicate, and the text matches.
 

@@ -10,7 +10,7 @@ The keyword matches in the predicate, so no terminal fails where the name is exp
   > END
   $ printf if > t
   $ pegtool explain g t
-  t:1:1: expected no K, found 'i'
+  t:1:1: expected something other than K, found 'i'
   if
   ^
   [1]
@@ -46,7 +46,7 @@ The predicate of Name fails at position 7, where its rule was called.
   > END
   $ printf 'SELECT FROM' > t
   $ pegtool explain g t
-  t:1:8: expected no Keyword, found 'F'
+  t:1:8: expected something other than Keyword, found 'F'
   SELECT FROM
          ^
   [1]
