@@ -81,8 +81,8 @@ class ParseError(TextError):
     """A text isn't matched, or not all of it.
 
     Besides the attributes of `TextError`, `expected` lists what would have been accepted at the position, as it is
-    written in the grammar. `found` is the character there in quotes, or "the end". `consumed` is the length of the part
-    that matched, or `None` if none did, and `far` the furthest position where a terminal failed; both count as
+    written in the grammar. `found` is the word or character there in quotes, or "the end". `consumed` is the length of
+    the part that matched, or `None` if none did, and `far` the furthest position where a terminal failed; both count as
     `position` does. `str(error)` is the message of `pegtool explain`, where columns of `str` texts count characters. It
     may name a rule in place of a class.
     """
