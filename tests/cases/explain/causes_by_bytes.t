@@ -13,7 +13,7 @@ Only at the start of the file a byte order mark is named as one.
 
   $ printf 'A \357\273\277' > g
   $ pegtool explain g | cat -A
-  g:1:3: unexpected 'M-oM-;M-?'$
+  g:1:3: unexpected '\xEF\xBB\xBF' (byte order mark)$
   A M-oM-;M-?$
     ^$
 
