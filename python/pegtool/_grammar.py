@@ -5,7 +5,6 @@ from __future__ import annotations
 import json
 import operator
 import os
-import threading
 from typing import Any, Dict, FrozenSet, Iterable, Optional, Tuple, Union, overload
 
 from ._errors import GrammarError, NoSuchRuleError, StepLimitError, TextTooLongError
@@ -18,6 +17,7 @@ from ._library import (
     GrammarHandle,
     Options,
     RawExplanation,
+    SharedGrammar,
 )
 from ._match import Failure, Match, Request
 from ._packed import selected, shifted
@@ -42,8 +42,8 @@ class Grammar:
     `hide` has names of rules whose nodes are left out of trees, if a parse doesn't say otherwise. Raises `GrammarError`
     if the file is refused, and `NoSuchRuleError` if no rule has a name of `hide`.
 
-    A grammar may be used by several threads at once: each of them has its own copy of the compiled grammar. A grammar
-    can be pickled: it is sent as its source, and compiled again. It never changes, so a copy is the grammar itself.
+    A grammar may be used by several threads at once: it is compiled once, and they share it. A grammar can be pickled:
+    it is sent as its source, and compiled again. It never changes, so a copy is the grammar itself.
     """
 
     def __init__(self, source: Union[str, Buffer], *, name: str = "<grammar>", hide: Iterable[str] = ()) -> None:
@@ -52,7 +52,11 @@ class Grammar:
         self.source: bytes = self._text.data
         # How messages call the grammar file.
         self.name = name
-        self._handles = threading.local()
+        # The compiled grammar.
+        self._shared = SharedGrammar(self.source)
+        if self._shared.status == REFUSED:
+            refusal = self._handle()
+            raise GrammarError(json.loads(refusal.refusal()), refusal.message(), self._text, self.name)
         # For sets of hidden rules that were asked for, the rules whose nodes never have children.
         self._leaves: Dict[FrozenSet[str], FrozenSet[str]] = {}
         # The names of the rules, in order.
@@ -248,14 +252,8 @@ class Grammar:
         return raw
 
     def _handle(self) -> GrammarHandle:
-        """The compiled grammar of this thread."""
-        handle: Optional[GrammarHandle] = getattr(self._handles, "handle", None)
-        if handle is None:
-            handle = GrammarHandle(self.source)
-            if handle.status == REFUSED:
-                raise GrammarError(json.loads(handle.refusal()), handle.message(), self._text, self.name)
-            self._handles.handle = handle
-        return handle
+        """The handle of the compiled grammar that this thread uses."""
+        return self._shared.handle()
 
     def __reduce__(self) -> Tuple[Any, ...]:
         return grammar_of, (self._text.given, self.name, self.hide)

@@ -54,9 +54,9 @@ static const struct shape SHAPES[] = {
 static uint8_t *file;
 static size_t file_length;
 static const uint8_t TEXT[] = "bcbcbabdbe";
-static peg_grammar grammar = PEG_NULL;
-static peg_match match = PEG_NULL;
-static peg_explanation explanation = PEG_NULL;
+static peg_grammar grammar = PEG_NULL, shared_grammar = PEG_NULL;
+static peg_match match = PEG_NULL, shared_match = PEG_NULL;
+static peg_explanation explanation = PEG_NULL, shared_explanation = PEG_NULL;
 static uint8_t line[4096];
 static uint32_t accepted, refused;
 
@@ -153,6 +153,19 @@ static void locate(void) {
 
 static void version(void) { peg_version(line, sizeof line); }
 
+static void share_grammar(void) { peg_grammar_share(&grammar, &shared_grammar); }
+
+static void share_match(void) { peg_match_share(&match, &shared_match); }
+
+static void share_explanation(void) { peg_explanation_share(&explanation, &shared_explanation); }
+
+/* Frees what the three handles hold, since the first handles are freed before. */
+static void free_shared(void) {
+    peg_grammar_free(&shared_grammar);
+    peg_match_free(&shared_match);
+    peg_explanation_free(&shared_explanation);
+}
+
 static void free_explanation(void) { peg_explanation_free(&explanation); }
 
 static void free_match(void) { peg_match_free(&match); }
@@ -182,10 +195,14 @@ static const struct {
     {"peg_explanation_expected", explained},
     {"peg_locate", locate},
     {"peg_version", version},
+    {"peg_grammar_share", share_grammar},
+    {"peg_match_share", share_match},
+    {"peg_explanation_share", share_explanation},
     {"peg_explanation_free", free_explanation},
     {"peg_match_free", free_match},
     {"peg_grammar_read over a grammar", read_grammar},
     {"peg_grammar_free", free_grammar},
+    {"the last handles' peg_.._free", free_shared},
 };
 
 #define COUNT(items) (sizeof(items) / sizeof *(items))

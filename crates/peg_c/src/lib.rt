@@ -4,8 +4,10 @@
 mod explanations;
 mod grammars;
 mod handle;
+pub mod laws;
 mod matches;
 mod raw_box;
+mod sharing;
 mod store;
 mod texts;
 
