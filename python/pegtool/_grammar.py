@@ -5,6 +5,7 @@ from __future__ import annotations
 import json
 import operator
 import os
+import threading
 from typing import Any, Dict, FrozenSet, Iterable, Optional, Tuple, Union, overload
 
 from ._errors import GrammarError, NoSuchRuleError, StepLimitError, TextTooLongError
@@ -14,10 +15,11 @@ from ._library import (
     REFUSED,
     STEP_LIMIT,
     TEXT_TOO_LONG,
+    ExplainerHandle,
     GrammarHandle,
     Options,
     RawExplanation,
-    SharedGrammar,
+    Shared,
 )
 from ._match import Failure, Match, Request
 from ._packed import selected, shifted
@@ -53,10 +55,13 @@ class Grammar:
         # How messages call the grammar file.
         self.name = name
         # The compiled grammar.
-        self._shared = SharedGrammar(self.source)
+        self._shared = Shared(GrammarHandle(), self.source)
         if self._shared.status == REFUSED:
             refusal = self._handle()
             raise GrammarError(json.loads(refusal.refusal()), refusal.message(), self._text, self.name)
+        # The grammar as it is compiled for explanations, from the first error on.
+        self._explaining: Optional[Shared[ExplainerHandle]] = None
+        self._lock = threading.RLock()
         # For sets of hidden rules that were asked for, the rules whose nodes never have children.
         self._leaves: Dict[FrozenSet[str], FrozenSet[str]] = {}
         # The names of the rules, in order.
@@ -246,7 +251,7 @@ class Grammar:
 
     def _explain(self, text: bytes, first: int, options: Options) -> RawExplanation:
         """Where a text doesn't match as a whole, from an offset on."""
-        status, raw = self._handle().explain(text, first, options)
+        status, raw = self._explainer().explain(text, first, options)
         if raw is None:
             raise fault(status, options)
         return raw
@@ -254,6 +259,13 @@ class Grammar:
     def _handle(self) -> GrammarHandle:
         """The handle of the compiled grammar that this thread uses."""
         return self._shared.handle()
+
+    def _explainer(self) -> ExplainerHandle:
+        """The handle of the explainer that this thread uses."""
+        with self._lock:
+            if self._explaining is None:
+                self._explaining = Shared(ExplainerHandle(), self.source)
+        return self._explaining.handle()
 
     def __reduce__(self) -> Tuple[Any, ...]:
         return grammar_of, (self._text.given, self.name, self.hide)

@@ -7,7 +7,7 @@ import os
 import threading
 from ctypes import POINTER, byref, c_char_p, c_size_t, c_uint8, c_uint32, c_uint64, c_void_p
 from ctypes.util import find_library
-from typing import Any, Callable, Dict, Iterator, List, NamedTuple, Optional, Tuple
+from typing import Any, Callable, ClassVar, Dict, Generic, Iterator, List, NamedTuple, Optional, Tuple, TypeVar
 
 # The number of the binary interface that this module is written for.
 ABI = 1
@@ -82,7 +82,10 @@ DECLARATIONS: Dict[str, Tuple[Any, ...]] = {
     "peg_match_summary": (c_uint32, POINTER(Handle), POINTER(PegSummary)),
     "peg_match_nodes": (c_size_t, POINTER(Handle), c_size_t, POINTER(PegNode), c_size_t),
     "peg_match_expected": (c_size_t, POINTER(Handle), c_size_t, POINTER(PegSpan), c_size_t),
-    "peg_explain": (
+    "peg_explainer_read": (c_uint32, c_char_p, c_size_t, POINTER(Handle)),
+    "peg_explainer_share": (c_uint32, POINTER(Handle), POINTER(Handle)),
+    "peg_explainer_free": (None, POINTER(Handle)),
+    "peg_explainer_explain": (
         c_uint32,
         POINTER(Handle),
         c_char_p,
@@ -161,29 +164,42 @@ def address(data: bytes, offset: int) -> int:
     return (ctypes.cast(c_char_p(data), c_void_p).value or 0) + offset
 
 
-class GrammarHandle:
-    """A handle of a grammar, or of a refusal. One call at a time uses it. Any thread may drop the last reference."""
+class ReadHandle:
+    """A handle of what was read from a grammar file. One call at a time uses it. Any thread may drop the last
+    reference."""
+
+    # How the names of its calls begin.
+    calls: ClassVar[str]
 
     def __init__(self) -> None:
         self.raw = Handle()
 
     def __del__(self) -> None:
         if LIBRARY is not None:  # the interpreter isn't ending
-            LIBRARY.peg_grammar_free(byref(self.raw))
+            getattr(LIBRARY, f"{self.calls}_free")(byref(self.raw))
 
     def read(self, file: bytes) -> int:
-        """Reads a grammar file, and then holds the grammar or the refusal. Returns the status."""
-        status: int = LIBRARY.peg_grammar_read(file, len(file), byref(self.raw))
+        """Reads a grammar file. Returns the status."""
+        status: int = getattr(LIBRARY, f"{self.calls}_read")(file, len(file), byref(self.raw))
         if status == OUT_OF_MEMORY:
             raise MemoryError("no memory for a grammar")
         return status
 
-    def share(self) -> GrammarHandle:
-        """Another handle of the same grammar, in constant time."""
-        other = GrammarHandle()
-        if LIBRARY.peg_grammar_share(byref(self.raw), byref(other.raw)) != OK:
+    def share(self: AnyHandle) -> AnyHandle:
+        """Another handle that shares what this one holds, in constant time."""
+        other = type(self)()
+        if getattr(LIBRARY, f"{self.calls}_share")(byref(self.raw), byref(other.raw)) != OK:
             raise MemoryError("no memory for a handle")
         return other
+
+
+AnyHandle = TypeVar("AnyHandle", bound=ReadHandle)
+
+
+class GrammarHandle(ReadHandle):
+    """A handle of a grammar, or of a refusal."""
+
+    calls = "peg_grammar"
 
     def refusal(self) -> bytes:
         """The line of JSON that says why the file was refused."""
@@ -215,12 +231,18 @@ class GrammarHandle:
         finally:
             LIBRARY.peg_match_free(byref(found))
 
+
+class ExplainerHandle(ReadHandle):
+    """A handle of a grammar that is compiled for explanations."""
+
+    calls = "peg_explainer"
+
     def explain(self, text: bytes, first: int, options: Options) -> Tuple[int, Optional[RawExplanation]]:
         """Explains where a text doesn't match from an offset. Returns the status, and the explanation if there is
         one."""
         found = Handle()
         try:
-            status = LIBRARY.peg_explain(
+            status = LIBRARY.peg_explainer_explain(
                 byref(self.raw), b"", 0, address(text, first), len(text) - first, *options.words(), byref(found)
             )
             return status, raw_explanation(found) if status == FAILED else None
@@ -228,22 +250,22 @@ class GrammarHandle:
             LIBRARY.peg_explanation_free(byref(found))
 
 
-class SharedGrammar:
-    """A grammar or a refusal that was read once, and the handles of the threads that use it.
+class Shared(Generic[AnyHandle]):
+    """What was read once from a grammar file, and the handles of the threads that use it.
 
-    A handle of a thread is freed when the thread ends, and those that are left with the grammar.
+    A handle of a thread is freed when the thread ends, and those that are left with this object.
     """
 
-    def __init__(self, file: bytes) -> None:
+    def __init__(self, first: AnyHandle, file: bytes) -> None:
         # It is only shared, which is a call that uses it. A finalizer may ask for a handle while a thread has the lock.
-        self._first = GrammarHandle()
+        self._first = first
         self._lock = threading.RLock()
         self._threads = threading.local()
-        self.status = self._first.read(file)
+        self.status = first.read(file)
 
-    def handle(self) -> GrammarHandle:
+    def handle(self) -> AnyHandle:
         """The handle of the current thread."""
-        handle: Optional[GrammarHandle] = getattr(self._threads, "handle", None)
+        handle: Optional[AnyHandle] = getattr(self._threads, "handle", None)
         if handle is None:
             with self._lock:
                 handle = self._first.share()

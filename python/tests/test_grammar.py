@@ -216,7 +216,7 @@ def run_threads(count, function):
 class Calls:
     """Counts the calls that make and free grammars, while it is entered. The garbage collector then runs on request."""
 
-    NAMES = ("peg_grammar_read", "peg_grammar_share", "peg_grammar_free")
+    NAMES = tuple(f"peg_{kind}_{call}" for kind in ("grammar", "explainer") for call in ("read", "share", "free"))
 
     def __init__(self):
         self.library = _library.LIBRARY
@@ -242,7 +242,7 @@ class Calls:
         return len(self.counted[name])
 
     def counts(self):
-        return {name: self[name] for name in self.NAMES}
+        return {name: self[name] for name in self.NAMES if self[name]}
 
 
 class Threads(unittest.TestCase):
@@ -274,6 +274,18 @@ class Threads(unittest.TestCase):
                 run_threads(1, lambda number: grammar.parse("ab"))
             self.assertEqual(calls["peg_grammar_free"], 3)
             self.assertEqual(grammar.parse("ab").consumed, 2)
+
+    def test_the_grammar_of_explanations_is_compiled_once(self):
+        with Calls() as calls:
+            grammar = Grammar(CHAIN)
+            self.assertEqual(grammar.parse("b").consumed, 1)
+            self.assertEqual(calls["peg_explainer_read"], 0)
+            errors = run_threads(3, lambda number: [str(grammar.match("a" * number).error()) for _ in range(4)])
+            self.assertEqual(calls["peg_explainer_read"], 1)
+            self.assertEqual((calls["peg_explainer_share"], calls["peg_explainer_free"]), (3, 3))
+            self.assertEqual(errors[2], ["<text>:1:3: expected 'a' or 'b', found the end\naa\n  ^"] * 4)
+            del grammar
+            self.assertEqual(calls["peg_explainer_free"], 4)
 
     def test_a_grammar_outlives_the_thread_that_made_it(self):
         made = run_threads(1, lambda number: Grammar(CHAIN))

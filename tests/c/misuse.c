@@ -75,6 +75,36 @@ static void null_explanations_give_nothing(void) {
     CHECK(explanation.opaque == NULL);
 }
 
+static uint32_t explain_by(peg_explainer *explainer, const char *text, const char *start, uint64_t steps,
+                           peg_explanation *out) {
+    return peg_explainer_explain(explainer, bytes("t"), 1, bytes(text), strlen(text), bytes(start), strlen(start),
+                                 PEG_DEFAULT_MEMO, steps, out);
+}
+
+/* A call on an explainer has the status of the call on a grammar. */
+static void explainers_have_the_statuses_of_grammars(void) {
+    peg_explainer explainer = PEG_NULL, other = PEG_NULL;
+    peg_grammar grammar = PEG_NULL;
+    peg_explanation explanation = PEG_NULL;
+    uint8_t message[100] = {0};
+    CHECK(explain_by(&explainer, "a", "", 0, &explanation) == PEG_WRONG_HANDLE && explanation.opaque == NULL);
+    CHECK(peg_explainer_share(&explainer, &other) == PEG_WRONG_HANDLE && other.opaque == NULL);
+    CHECK(peg_explainer_read(bytes("S <- T"), 6, &explainer) == PEG_REFUSED && explainer.opaque == NULL);
+    CHECK(peg_explainer_read(bytes("S <- 'a' 'b'"), 12, &explainer) == PEG_OK);
+    CHECK(explain_by((peg_explainer *)&grammar, "a", "", 0, &explanation) == PEG_WRONG_HANDLE);
+    CHECK(explain((peg_grammar *)&explainer, "a", "", 0, &explanation) == PEG_WRONG_HANDLE);
+    CHECK(explain_by(&explainer, "ab", "", 0, &explanation) == PEG_OK && explanation.opaque == NULL);
+    CHECK(explain_by(&explainer, "ab", "T", 0, &explanation) == PEG_NO_SUCH_START && explanation.opaque == NULL);
+    CHECK(explain_by(&explainer, "ab", "", 1, &explanation) == PEG_STEP_LIMIT && explanation.opaque == NULL);
+    CHECK(explain_by(&explainer, "ac", "S", 0, &explanation) == PEG_FAILED);
+    const char *expected = "t:1:2: expected 'b', found 'c'\nac\n ^\n";
+    size_t length = peg_explanation_message(&explanation, message, sizeof message);
+    CHECK(length == strlen(expected) && strcmp((char *)message, expected) == 0);
+    peg_explanation_free(&explanation);
+    peg_explainer_free(&explainer);
+    CHECK(explainer.opaque == NULL);
+}
+
 /* A handle keeps what it holds when a handle that shares it is freed or gets something else. */
 static void shared_handles_are_independent(void) {
     peg_grammar grammar = PEG_NULL, other = PEG_NULL;
@@ -237,6 +267,7 @@ int main(void) {
     null_handles_give_nothing();
     null_explanations_give_nothing();
     shared_handles_are_independent();
+    explainers_have_the_statuses_of_grammars();
     other_handles_are_reported();
     refusals_have_their_place();
     parses_have_their_statuses();

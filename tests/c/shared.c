@@ -1,5 +1,6 @@
-/* shared GRAMMAR TEXT: two threads, and then eight, use handles that share a grammar, a match and an explanation. Their
- * answers have to be the answers of one thread. The text to be explained is all but the last byte of TEXT.
+/* shared GRAMMAR TEXT: two threads, and then eight, use handles that share a grammar, a match, an explanation and an
+ * explainer. Their answers have to be the answers of one thread, and the explanations of the explainer those of the
+ * grammar. The text to be explained is all but the last byte of TEXT.
  *
  * The handles of a thread are made by the main thread, which then frees its own while they run. So the last of them to
  * end frees the grammar. Each thread leaves handles behind that it made: another thread uses and frees them. */
@@ -17,6 +18,7 @@ struct task {
     peg_grammar grammar, made_grammar;
     peg_match match, made_match;
     peg_explanation explanation, made_explanation;
+    peg_explainer explainer, made_explainer;
     uint64_t sum;
 };
 
@@ -63,12 +65,27 @@ static void explain(peg_grammar *grammar, peg_explanation *out) {
     expect(status == PEG_FAILED, "no explanation");
 }
 
+/* Explains by another handle of an explainer. */
+static uint64_t sum_by_explainer(peg_explainer *explainer) {
+    peg_explainer other = PEG_NULL;
+    peg_explanation explanation = PEG_NULL;
+    expect(peg_explainer_share(explainer, &other) == PEG_OK, "an explainer isn't shared");
+    uint32_t status = peg_explainer_explain(&other, text, 0, text, text_length - 1, text, 0, PEG_DEFAULT_MEMO, 0,
+                                            &explanation);
+    expect(status == PEG_FAILED, "no explanation by an explainer");
+    uint64_t sum = sum_of_explanation(&explanation);
+    peg_explanation_free(&explanation);
+    peg_explainer_free(&other);
+    return sum;
+}
+
 /* Uses handles by each kind of call, the new handles that it makes included. */
-static uint64_t use(peg_grammar *grammar, peg_match *match, peg_explanation *explanation) {
+static uint64_t use(peg_grammar *grammar, peg_match *match, peg_explanation *explanation, peg_explainer *explainer) {
     peg_grammar other_grammar = PEG_NULL;
     peg_match other_match = PEG_NULL;
     peg_explanation other_explanation = PEG_NULL;
     uint32_t rules = 0;
+    expect(sum_by_explainer(explainer) == sum_of_explanation(explanation), "an explainer explains otherwise");
     expect(peg_grammar_share(grammar, &other_grammar) == PEG_OK, "a grammar isn't shared");
     expect(peg_match_share(match, &other_match) == PEG_OK, "a match isn't shared");
     expect(peg_explanation_share(explanation, &other_explanation) == PEG_OK, "an explanation isn't shared");
@@ -88,24 +105,28 @@ static uint64_t use(peg_grammar *grammar, peg_match *match, peg_explanation *exp
 static void *run(void *argument) {
     struct task *task = argument;
     for (int round = 0; round < ROUNDS; round++) {
-        task->sum = task->sum * 31 + use(&task->grammar, &task->match, &task->explanation);
+        task->sum = task->sum * 31 + use(&task->grammar, &task->match, &task->explanation, &task->explainer);
     }
     expect(peg_grammar_share(&task->grammar, &task->made_grammar) == PEG_OK, "a grammar isn't shared");
+    expect(peg_explainer_share(&task->explainer, &task->made_explainer) == PEG_OK, "an explainer isn't shared");
     parse(&task->grammar, &task->made_match);
     explain(&task->grammar, &task->made_explanation);
     peg_grammar_free(&task->grammar);
     peg_match_free(&task->match);
     peg_explanation_free(&task->explanation);
+    peg_explainer_free(&task->explainer);
     return NULL;
 }
 
 /* Uses and frees what a thread has made that has ended. */
 static void *take_over(void *argument) {
     struct task *task = argument;
-    task->sum = task->sum * 31 + use(&task->made_grammar, &task->made_match, &task->made_explanation);
+    task->sum = task->sum * 31 +
+                use(&task->made_grammar, &task->made_match, &task->made_explanation, &task->made_explainer);
     peg_grammar_free(&task->made_grammar);
     peg_match_free(&task->made_match);
     peg_explanation_free(&task->made_explanation);
+    peg_explainer_free(&task->made_explainer);
     return NULL;
 }
 
@@ -114,21 +135,24 @@ static void start(pthread_t *thread, void *(*function)(void *), struct task *tas
 }
 
 /* Runs threads that share what these handles hold, and frees the handles. Returns the number of other answers. */
-static int run_threads(int count, peg_grammar grammar, peg_match match, peg_explanation explanation) {
+static int run_threads(int count, peg_grammar grammar, peg_match match, peg_explanation explanation,
+                       peg_explainer explainer) {
     struct task tasks[MOST_THREADS];
     pthread_t threads[MOST_THREADS];
-    uint64_t one = use(&grammar, &match, &explanation), want = 0;
+    uint64_t one = use(&grammar, &match, &explanation, &explainer), want = 0;
     int wrong = 0;
     memset(tasks, 0, sizeof tasks);
     for (int i = 0; i < count; i++) {
         expect(peg_grammar_share(&grammar, &tasks[i].grammar) == PEG_OK, "a grammar isn't shared");
         expect(peg_match_share(&match, &tasks[i].match) == PEG_OK, "a match isn't shared");
         expect(peg_explanation_share(&explanation, &tasks[i].explanation) == PEG_OK, "an explanation isn't shared");
+        expect(peg_explainer_share(&explainer, &tasks[i].explainer) == PEG_OK, "an explainer isn't shared");
         start(&threads[i], run, &tasks[i]);
     }
     peg_grammar_free(&grammar);
     peg_match_free(&match);
     peg_explanation_free(&explanation);
+    peg_explainer_free(&explainer);
     for (int i = 0; i < count; i++) {
         pthread_join(threads[i], NULL);
         start(&threads[i], take_over, &tasks[i]);
@@ -172,7 +196,9 @@ int main(int argc, char **argv) {
         expect(peg_grammar_read(file, file_length, &grammar) == PEG_OK, "the grammar is refused");
         parse(&grammar, &match);
         explain(&grammar, &explanation);
-        wrong += run_threads(counts[i], grammar, match, explanation);
+        peg_explainer explainer = PEG_NULL;
+        expect(peg_explainer_read(file, file_length, &explainer) == PEG_OK, "the explainer is refused");
+        wrong += run_threads(counts[i], grammar, match, explanation, explainer);
     }
     printf("shared: 2 and %d threads, %d wrong\n", MOST_THREADS, wrong);
     free(text);

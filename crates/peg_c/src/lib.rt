@@ -1,6 +1,7 @@
 //! The C library: handles, and the calls of `include/peg.h`. Each call states the clauses of its body in `peg_handle`.
 #![tactic(auto)]
 
+mod explainers;
 mod explanations;
 mod grammars;
 mod handle;
