@@ -6,10 +6,12 @@
  * Handles
  *   A handle is a struct of one pointer. A null handle, `PEG_NULL`, holds nothing. Initialise each handle to it before
  *   the first call. A call that fills a handle releases what it held before; a call that fails leaves it unchanged.
- *   The caller owns what a handle holds and releases it with `peg_grammar_free`, `peg_match_free` or
- *   `peg_explanation_free`, which leave the handle null. Releasing a null handle does nothing. Move a handle by copying
- *   the struct and no longer using the old one: two copies are two owners, and using both is undefined. A match and an
- *   explanation don't depend on their grammar.
+ *   The caller owns what a handle holds and releases it with `peg_grammar_free`, `peg_match_free`,
+ *   `peg_explanation_free` or `peg_explainer_free`, which leave the handle null. Releasing a null handle does nothing.
+ *   Move a handle by copying the struct and no longer using the old one: two copies are two owners, and using both is
+ *   undefined. For two owners call `peg_grammar_share`, `peg_match_share`, `peg_explanation_share` or
+ *   `peg_explainer_share`. Handles that share what they hold own it together: it never changes, and its memory is freed
+ *   when the last of them is released. A match and an explanation don't depend on their grammar.
  *
  * Memory
  *   The library keeps no pointer to the caller's memory: a grammar file and a text may be freed after the call. Memory
@@ -28,9 +30,11 @@
  *   It must not overlap other memory of the same call. Two handles of one call must be different variables.
  *
  * Threads
- *   The library starts no thread. Distinct handles may be used by distinct threads at the same time. A handle is used
- *   by one call at a time, also where a call only reads it. It stays on the thread that made it: that it may move to
- *   another thread isn't proved. No function may be called from a signal handler, or in the child of a process with
+ *   The library starts no thread. Distinct handles may be used by distinct threads at the same time, also if they share
+ *   what they hold. So a grammar is read once, and each thread gets a handle of its own by `peg_grammar_share`. A
+ *   handle is used by one call at a time, also where a call only reads it. Any thread may take a handle over, and use
+ *   and release it. It is handed over by what orders the accesses of two threads: the start or the end of a thread, a
+ *   lock, or an atomic variable. No function may be called from a signal handler, or in the child of a process with
  *   threads after fork. All functions may be called from any thread within these rules.
  *
  * Steps
@@ -57,7 +61,8 @@ extern "C" {
 #define PEG_ABI 1u
 
 /* A grammar handle holds a grammar, or the reason why a grammar file was refused. A match handle holds the answer to a
- * parse, and an explanation handle says where a text doesn't match. The member is private. */
+ * parse, and an explanation handle says where a text doesn't match. An explainer handle holds a grammar that is
+ * compiled for explanations. The member is private. */
 typedef struct peg_grammar {
     void *opaque;
 } peg_grammar;
@@ -69,6 +74,10 @@ typedef struct peg_match {
 typedef struct peg_explanation {
     void *opaque;
 } peg_explanation;
+
+typedef struct peg_explainer {
+    void *opaque;
+} peg_explainer;
 
 /* The initialiser of a null handle. */
 #define PEG_NULL {0}
@@ -164,7 +173,13 @@ typedef struct peg_mismatch {
  * With the first two, the caller has to release `out` with `peg_grammar_free`. */
 uint32_t peg_grammar_read(const uint8_t *file, size_t file_length, peg_grammar *out);
 
-/* Releases what a handle holds and leaves the handle null. */
+/* Makes `out` another handle of the grammar or the refusal that `grammar` holds. Nothing is copied, and the time is
+ * constant, but for the release of what `out` held before. `grammar` is unchanged.
+ * Returns PEG_OK; the caller then has to release both handles, in any order and on any threads.
+ * Otherwise `out` is unchanged. PEG_WRONG_HANDLE: `grammar` is null. PEG_OUT_OF_MEMORY: a request for memory failed. */
+uint32_t peg_grammar_share(peg_grammar *grammar, peg_grammar *out);
+
+/* Releases what a handle holds and leaves the handle null. Its memory is freed if no other handle shares it. */
 void peg_grammar_free(peg_grammar *grammar);
 
 /* Copies to `out` the line of JSON that `pegtool check` prints for a refused file, without its line end and without a
@@ -203,7 +218,10 @@ size_t peg_rule_name(peg_grammar *grammar, uint32_t rule, uint8_t *out, size_t o
 uint32_t peg_parse(peg_grammar *grammar, const uint8_t *text, size_t text_length, const uint8_t *start,
                    size_t start_length, uint32_t memo, uint64_t steps, peg_match *out);
 
-/* Releases what a handle holds and leaves the handle null. */
+/* Makes `out` another handle of the answer that `match` holds, as `peg_grammar_share` does for a grammar. */
+uint32_t peg_match_share(peg_match *match, peg_match *out);
+
+/* Releases what a handle holds and leaves the handle null. Its memory is freed if no other handle shares it. */
 void peg_match_free(peg_match *match);
 
 /* Writes the summary of an answer.
@@ -225,7 +243,8 @@ size_t peg_match_expected(peg_match *match, size_t from, peg_span *out, size_t o
  * `name` is how the message calls the text. `start`, `memo` and `steps` are those of `peg_parse`. `grammar` is
  * unchanged.
  * The parse is by a larger grammar, whose items tell where predicates fail: it takes more steps than `peg_parse`, and
- * each call compiles that grammar. So parse first, and explain only what doesn't match.
+ * each call compiles that grammar. So parse first, and explain only what doesn't match. To explain many texts, read an
+ * explainer once.
  * Returns PEG_OK if the text matches as a whole; `out` is then unchanged.
  * Returns PEG_FAILED if it doesn't; `out` then holds the explanation, and the caller has to release it with
  * `peg_explanation_free`. The other statuses are those of `peg_parse`, and leave `out` unchanged. */
@@ -233,7 +252,29 @@ uint32_t peg_explain(peg_grammar *grammar, const uint8_t *name, size_t name_leng
                      size_t text_length, const uint8_t *start, size_t start_length, uint32_t memo, uint64_t steps,
                      peg_explanation *out);
 
-/* Releases what a handle holds and leaves the handle null. */
+/* Makes `out` another handle of the explanation that `explanation` holds, as `peg_grammar_share` does for a grammar. */
+uint32_t peg_explanation_share(peg_explanation *explanation, peg_explanation *out);
+
+/* Reads a grammar file, and compiles the larger grammar by which explanations parse. `peg_explainer_explain` doesn't
+ * compile it again.
+ * Returns PEG_OK; the caller then has to release `out` with `peg_explainer_free`.
+ * Otherwise `out` is unchanged. PEG_REFUSED: the file is refused, and `peg_grammar_read` gives the reason.
+ * PEG_OUT_OF_MEMORY: a request for memory failed. */
+uint32_t peg_explainer_read(const uint8_t *file, size_t file_length, peg_explainer *out);
+
+/* Makes `out` another handle of the explainer that `explainer` holds, as `peg_grammar_share` does for a grammar. */
+uint32_t peg_explainer_share(peg_explainer *explainer, peg_explainer *out);
+
+/* Releases what a handle holds and leaves the handle null. Its memory is freed if no other handle shares it. */
+void peg_explainer_free(peg_explainer *explainer);
+
+/* Explains where a text doesn't match as a whole. The explanation, the steps and the statuses are those of
+ * `peg_explain` for a grammar of the same file. `explainer` is unchanged. */
+uint32_t peg_explainer_explain(peg_explainer *explainer, const uint8_t *name, size_t name_length, const uint8_t *text,
+                               size_t text_length, const uint8_t *start, size_t start_length, uint32_t memo,
+                               uint64_t steps, peg_explanation *out);
+
+/* Releases what a handle holds and leaves the handle null. Its memory is freed if no other handle shares it. */
 void peg_explanation_free(peg_explanation *explanation);
 
 /* Copies the message to `out`: `NAME:LINE:COLUMN: expected ITEMS, found CHARACTER`, the line of the text, and a caret.

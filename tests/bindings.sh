@@ -49,6 +49,7 @@ compile misuse tests/c/misuse.c $archive
 compile freed tests/c/freed.c $archive
 compile memory tests/c/memory.c $archive $wrap
 compile threads tests/c/threads.c $archive -pthread
+compile shared tests/c/shared.c $archive -pthread
 compile stack tests/c/stack.c $archive -pthread
 # In C++ the outputs of calls are initialised by `= {}`.
 printf '#include "peg.h"
@@ -126,6 +127,7 @@ printf '%s' "$(printf '(%.0s' {1..22})a$(printf ')y%.0s' {1..22})" > "$work/nest
 "$work/memory" "$work/nested.peg" "$work/nested" || fault "memory of a nested text"
 
 "$work/threads" examples/json.peg "$json" || fault "threads"
+"$work/shared" examples/json.peg "$work/object" || fault "shared"
 "$work/stack" || fault "stack"
 
 if command -v valgrind > /dev/null; then
@@ -140,9 +142,15 @@ if command -v valgrind > /dev/null; then
   under misuse
   under freed examples/json.peg "$work/object"
   under memory examples/json.peg "$json"
-  valgrind -q --tool=helgrind --error-exitcode=99 "$work/threads" examples/json.peg "$json" > "$work/out" 2>&1 ||
-    { fault "helgrind reports an error"; cat "$work/out" >&2; }
-  echo "valgrind: 6 programs"
+  under shared examples/json.peg "$work/object"
+  races() { # a tool of valgrind, the program and its words: no accesses without an order
+    valgrind -q --tool="$1" --error-exitcode=99 "$work/$2" "${@:3}" > "$work/out" 2>&1 ||
+      { fault "$1 reports an error: ${*:2}"; cat "$work/out" >&2; }
+  }
+  races helgrind threads examples/json.peg "$json"
+  races helgrind shared examples/json.peg "$work/object"
+  races drd shared examples/json.peg "$work/object"
+  echo "valgrind: 7 programs"
 else
   echo "SKIPPED: the C programs under valgrind, there is none"
 fi

@@ -15,9 +15,11 @@ from ._library import (
     REFUSED,
     STEP_LIMIT,
     TEXT_TOO_LONG,
+    ExplainerHandle,
     GrammarHandle,
     Options,
     RawExplanation,
+    Shared,
 )
 from ._match import Failure, Match, Request
 from ._packed import selected, shifted
@@ -42,8 +44,8 @@ class Grammar:
     `hide` has names of rules whose nodes are left out of trees, if a parse doesn't say otherwise. Raises `GrammarError`
     if the file is refused, and `NoSuchRuleError` if no rule has a name of `hide`.
 
-    A grammar may be used by several threads at once: each of them has its own copy of the compiled grammar. A grammar
-    can be pickled: it is sent as its source, and compiled again. It never changes, so a copy is the grammar itself.
+    A grammar may be used by several threads at once: it is compiled once, and they share it. A grammar can be pickled:
+    it is sent as its source, and compiled again. It never changes, so a copy is the grammar itself.
     """
 
     def __init__(self, source: Union[str, Buffer], *, name: str = "<grammar>", hide: Iterable[str] = ()) -> None:
@@ -52,7 +54,14 @@ class Grammar:
         self.source: bytes = self._text.data
         # How messages call the grammar file.
         self.name = name
-        self._handles = threading.local()
+        # The compiled grammar.
+        self._shared = Shared(GrammarHandle(), self.source)
+        if self._shared.status == REFUSED:
+            refusal = self._handle()
+            raise GrammarError(json.loads(refusal.refusal()), refusal.message(), self._text, self.name)
+        # The grammar as it is compiled for explanations, from the first error on.
+        self._explaining: Optional[Shared[ExplainerHandle]] = None
+        self._lock = threading.RLock()
         # For sets of hidden rules that were asked for, the rules whose nodes never have children.
         self._leaves: Dict[FrozenSet[str], FrozenSet[str]] = {}
         # The names of the rules, in order.
@@ -242,20 +251,21 @@ class Grammar:
 
     def _explain(self, text: bytes, first: int, options: Options) -> RawExplanation:
         """Where a text doesn't match as a whole, from an offset on."""
-        status, raw = self._handle().explain(text, first, options)
+        status, raw = self._explainer().explain(text, first, options)
         if raw is None:
             raise fault(status, options)
         return raw
 
     def _handle(self) -> GrammarHandle:
-        """The compiled grammar of this thread."""
-        handle: Optional[GrammarHandle] = getattr(self._handles, "handle", None)
-        if handle is None:
-            handle = GrammarHandle(self.source)
-            if handle.status == REFUSED:
-                raise GrammarError(json.loads(handle.refusal()), handle.message(), self._text, self.name)
-            self._handles.handle = handle
-        return handle
+        """The handle of the compiled grammar that this thread uses."""
+        return self._shared.handle()
+
+    def _explainer(self) -> ExplainerHandle:
+        """The handle of the explainer that this thread uses."""
+        with self._lock:
+            if self._explaining is None:
+                self._explaining = Shared(ExplainerHandle(), self.source)
+        return self._explaining.handle()
 
     def __reduce__(self) -> Tuple[Any, ...]:
         return grammar_of, (self._text.given, self.name, self.hide)

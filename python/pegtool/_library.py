@@ -1,4 +1,4 @@
-"""The C library of Cutzalmi: the declarations of include/peg.h, and handles that stay on the thread that made them."""
+"""The C library of Cutzalmi: the declarations of include/peg.h, and a handle of a grammar for each thread."""
 
 from __future__ import annotations
 
@@ -7,7 +7,7 @@ import os
 import threading
 from ctypes import POINTER, byref, c_char_p, c_size_t, c_uint8, c_uint32, c_uint64, c_void_p
 from ctypes.util import find_library
-from typing import Any, Callable, Dict, Iterator, List, NamedTuple, Optional, Tuple
+from typing import Any, Callable, ClassVar, Dict, Generic, Iterator, List, NamedTuple, Optional, Tuple, TypeVar
 
 # The number of the binary interface that this module is written for.
 ABI = 1
@@ -61,6 +61,7 @@ class PegMismatch(ctypes.Structure):
 # The result and the arguments of each function. A text is a `c_void_p`, which takes an address inside of `bytes`.
 DECLARATIONS: Dict[str, Tuple[Any, ...]] = {
     "peg_grammar_read": (c_uint32, c_char_p, c_size_t, POINTER(Handle)),
+    "peg_grammar_share": (c_uint32, POINTER(Handle), POINTER(Handle)),
     "peg_grammar_free": (None, POINTER(Handle)),
     "peg_grammar_refusal": (c_size_t, POINTER(Handle), POINTER(c_uint8), c_size_t),
     "peg_grammar_message": (c_size_t, POINTER(Handle), POINTER(c_uint8), c_size_t),
@@ -81,7 +82,10 @@ DECLARATIONS: Dict[str, Tuple[Any, ...]] = {
     "peg_match_summary": (c_uint32, POINTER(Handle), POINTER(PegSummary)),
     "peg_match_nodes": (c_size_t, POINTER(Handle), c_size_t, POINTER(PegNode), c_size_t),
     "peg_match_expected": (c_size_t, POINTER(Handle), c_size_t, POINTER(PegSpan), c_size_t),
-    "peg_explain": (
+    "peg_explainer_read": (c_uint32, c_char_p, c_size_t, POINTER(Handle)),
+    "peg_explainer_share": (c_uint32, POINTER(Handle), POINTER(Handle)),
+    "peg_explainer_free": (None, POINTER(Handle)),
+    "peg_explainer_explain": (
         c_uint32,
         POINTER(Handle),
         c_char_p,
@@ -160,79 +164,42 @@ def address(data: bytes, offset: int) -> int:
     return (ctypes.cast(c_char_p(data), c_void_p).value or 0) + offset
 
 
-class Owner:
-    """A thread that owns handles: those that it holds, and of these the ones that other threads have let go of."""
+class ReadHandle:
+    """A handle of what was read from a grammar file. One call at a time uses it. Any thread may drop the last
+    reference."""
+
+    # How the names of its calls begin.
+    calls: ClassVar[str]
 
     def __init__(self) -> None:
-        self.abandoned: List[Handle] = []
-        self.held: Dict[int, Handle] = {}
-        # A finalizer may run at any time, also while this thread has the lock.
-        self.lock = threading.RLock()
-
-    def release(self) -> None:
-        """Frees the handles that other threads have let go of."""
-        while self.abandoned:
-            LIBRARY.peg_grammar_free(byref(self.abandoned.pop()))
-
-    def let_go(self, handle: Handle) -> None:
-        """Frees a handle, or leaves it to its thread. If that has ended, it has freed the handle."""
-        with self.lock:
-            if self.held.pop(id(handle), None) is None:
-                return
-            self.abandoned.append(handle)
-        if self is getattr(_threads, "owner", None):
-            self.release()
-
-    def end(self) -> None:
-        """Frees all handles, as the thread ends."""
-        with self.lock:
-            self.abandoned.extend(self.held.values())
-            self.held.clear()
-        self.release()
-
-
-class Guard:
-    """Ends with its thread, on that thread, and frees what the thread still owns."""
-
-    def __init__(self, owner: Owner) -> None:
-        self.owner = owner
-
-    def __del__(self) -> None:
-        if LIBRARY is not None:  # the interpreter isn't ending
-            self.owner.end()
-
-
-_threads = threading.local()
-
-
-def this_thread() -> Owner:
-    """The owner that represents the current thread."""
-    if not hasattr(_threads, "owner"):
-        _threads.owner = Owner()
-        _threads.guard = Guard(_threads.owner)
-    owner: Owner = _threads.owner
-    return owner
-
-
-class GrammarHandle:
-    """A grammar of the library, or a refusal. The thread that made it uses it and frees it.
-
-    If another thread drops the last reference, the handle is freed when its owner makes or uses a grammar the next
-    time, or ends. A thread that ends frees its handles.
-    """
-
-    def __init__(self, file: bytes) -> None:
         self.raw = Handle()
-        self.owner = this_thread()
-        self.owner.release()
-        self.status = LIBRARY.peg_grammar_read(file, len(file), byref(self.raw))
-        if self.status == OUT_OF_MEMORY:
-            raise MemoryError("no memory for a grammar")
-        self.owner.held[id(self.raw)] = self.raw
 
     def __del__(self) -> None:
         if LIBRARY is not None:  # the interpreter isn't ending
-            self.owner.let_go(self.raw)
+            getattr(LIBRARY, f"{self.calls}_free")(byref(self.raw))
+
+    def read(self, file: bytes) -> int:
+        """Reads a grammar file. Returns the status."""
+        status: int = getattr(LIBRARY, f"{self.calls}_read")(file, len(file), byref(self.raw))
+        if status == OUT_OF_MEMORY:
+            raise MemoryError("no memory for a grammar")
+        return status
+
+    def share(self: AnyHandle) -> AnyHandle:
+        """Another handle that shares what this one holds, in constant time."""
+        other = type(self)()
+        if getattr(LIBRARY, f"{self.calls}_share")(byref(self.raw), byref(other.raw)) != OK:
+            raise MemoryError("no memory for a handle")
+        return other
+
+
+AnyHandle = TypeVar("AnyHandle", bound=ReadHandle)
+
+
+class GrammarHandle(ReadHandle):
+    """A handle of a grammar, or of a refusal."""
+
+    calls = "peg_grammar"
 
     def refusal(self) -> bytes:
         """The line of JSON that says why the file was refused."""
@@ -255,7 +222,6 @@ class GrammarHandle:
         self, text: bytes, first: int, options: Options, with_nodes: bool
     ) -> Tuple[int, Optional[RawAnswer]]:
         """Parses a text from an offset. Returns the status, and the answer if there is one."""
-        self.owner.release()
         found = Handle()
         try:
             status = LIBRARY.peg_parse(
@@ -265,18 +231,46 @@ class GrammarHandle:
         finally:
             LIBRARY.peg_match_free(byref(found))
 
+
+class ExplainerHandle(ReadHandle):
+    """A handle of a grammar that is compiled for explanations."""
+
+    calls = "peg_explainer"
+
     def explain(self, text: bytes, first: int, options: Options) -> Tuple[int, Optional[RawExplanation]]:
         """Explains where a text doesn't match from an offset. Returns the status, and the explanation if there is
         one."""
-        self.owner.release()
         found = Handle()
         try:
-            status = LIBRARY.peg_explain(
+            status = LIBRARY.peg_explainer_explain(
                 byref(self.raw), b"", 0, address(text, first), len(text) - first, *options.words(), byref(found)
             )
             return status, raw_explanation(found) if status == FAILED else None
         finally:
             LIBRARY.peg_explanation_free(byref(found))
+
+
+class Shared(Generic[AnyHandle]):
+    """What was read once from a grammar file, and the handles of the threads that use it.
+
+    A handle of a thread is freed when the thread ends, and those that are left with this object.
+    """
+
+    def __init__(self, first: AnyHandle, file: bytes) -> None:
+        # It is only shared, which is a call that uses it. A finalizer may ask for a handle while a thread has the lock.
+        self._first = first
+        self._lock = threading.RLock()
+        self._threads = threading.local()
+        self.status = first.read(file)
+
+    def handle(self) -> AnyHandle:
+        """The handle of the current thread."""
+        handle: Optional[AnyHandle] = getattr(self._threads, "handle", None)
+        if handle is None:
+            with self._lock:
+                handle = self._first.share()
+            self._threads.handle = handle
+        return handle
 
 
 class Options(NamedTuple):

@@ -1,9 +1,11 @@
 """Grammars and their errors, against values worked out by hand."""
 
+import gc
 import os
 import tempfile
 import threading
 import unittest
+from concurrent.futures import ThreadPoolExecutor
 
 from pegtool import _library
 from pegtool import (
@@ -196,6 +198,53 @@ class Parses(unittest.TestCase):
         self.assertEqual(len(match.rows), 101)
 
 
+def run_threads(count, function):
+    """Runs a function of a number from 0 in threads at the same time. Returns what it returns, by number."""
+    results = [None] * count
+
+    def run(number):
+        results[number] = function(number)
+
+    threads = [threading.Thread(target=run, args=(number,)) for number in range(count)]
+    for thread in threads:
+        thread.start()
+    for thread in threads:
+        thread.join()
+    return results
+
+
+class Calls:
+    """Counts the calls that make and free grammars, while it is entered. The garbage collector then runs on request."""
+
+    NAMES = tuple(f"peg_{kind}_{call}" for kind in ("grammar", "explainer") for call in ("read", "share", "free"))
+
+    def __init__(self):
+        self.library = _library.LIBRARY
+        self.counted = {name: [] for name in self.NAMES}
+
+    def __enter__(self):
+        gc.collect()
+        gc.disable()
+        _library.LIBRARY = self
+        return self
+
+    def __exit__(self, *error):
+        _library.LIBRARY = self.library
+        gc.enable()
+
+    def __getattr__(self, name):
+        function = getattr(self.library, name)
+        if name in self.NAMES:
+            self.counted[name].append(name)
+        return function
+
+    def __getitem__(self, name):
+        return len(self.counted[name])
+
+    def counts(self):
+        return {name: self[name] for name in self.NAMES if self[name]}
+
+
 class Threads(unittest.TestCase):
     def test_a_grammar_is_used_by_several_threads(self):
         grammar, lengths = Grammar(CHAIN), {}
@@ -210,27 +259,79 @@ class Threads(unittest.TestCase):
             thread.join()
         self.assertEqual(lengths, {count: [count + 1] * 50 for count in (1, 10, 100, 1000)})
 
-    def test_a_thread_that_ends_frees_its_handles(self):
-        grammar, owners = Grammar(CHAIN), []
+    def test_a_grammar_is_compiled_once(self):
+        with Calls() as calls:
+            grammar = Grammar(CHAIN)
+            run_threads(3, lambda number: grammar.parse("ab"))
+            # The thread that made it and the three have a handle each, besides the one that they share.
+            self.assertEqual(calls.counts(), {"peg_grammar_read": 1, "peg_grammar_share": 4, "peg_grammar_free": 3})
 
-        def parse():
-            grammar.parse("ab")
-            owners.append((_library.this_thread(), len(_library.this_thread().held)))
+    def test_a_thread_that_ends_frees_its_handle(self):
+        with Calls() as calls:
+            grammar = Grammar(CHAIN)
+            for ended in range(3):
+                self.assertEqual(calls["peg_grammar_free"], ended)
+                run_threads(1, lambda number: grammar.parse("ab"))
+            self.assertEqual(calls["peg_grammar_free"], 3)
+            self.assertEqual(grammar.parse("ab").consumed, 2)
 
-        for _ in range(3):
-            thread = threading.Thread(target=parse)
-            thread.start()
-            thread.join()
-        self.assertEqual([held for _, held in owners], [1, 1, 1])
-        self.assertEqual([(owner.held, owner.abandoned) for owner, _ in owners], [({}, [])] * 3)
-        self.assertEqual(grammar.parse("ab").consumed, 2)
+    def test_the_grammar_of_explanations_is_compiled_once(self):
+        with Calls() as calls:
+            grammar = Grammar(CHAIN)
+            self.assertEqual(grammar.parse("b").consumed, 1)
+            self.assertEqual(calls["peg_explainer_read"], 0)
+            errors = run_threads(3, lambda number: [str(grammar.match("a" * number).error()) for _ in range(4)])
+            self.assertEqual(calls["peg_explainer_read"], 1)
+            self.assertEqual((calls["peg_explainer_share"], calls["peg_explainer_free"]), (3, 3))
+            self.assertEqual(errors[2], ["<text>:1:3: expected 'a' or 'b', found the end\naa\n  ^"] * 4)
+            del grammar
+            self.assertEqual(calls["peg_explainer_free"], 4)
 
-    def test_a_grammar_of_another_thread_is_let_go_of(self):
-        made = []
-        thread = threading.Thread(target=lambda: made.append(Grammar(CHAIN)))
-        thread.start()
-        thread.join()
+    def test_a_grammar_outlives_the_thread_that_made_it(self):
+        made = run_threads(1, lambda number: Grammar(CHAIN))
         self.assertEqual(made.pop().parse("b").consumed, 1)
+
+    def test_another_thread_frees_a_grammar(self):
+        with Calls() as calls:
+            grammars = [Grammar(CHAIN)]
+            grammars[0].parse("b")
+            run_threads(1, lambda number: grammars.clear())
+            self.assertEqual(calls.counts(), {"peg_grammar_read": 1, "peg_grammar_share": 1, "peg_grammar_free": 2})
+
+    def test_the_garbage_collector_of_another_thread_frees_a_grammar(self):
+        with Calls() as calls:
+            circle = [Grammar(CHAIN)]
+            circle.append(circle)
+            del circle
+            self.assertEqual(calls["peg_grammar_free"], 0)
+            run_threads(1, lambda number: gc.collect())
+            self.assertEqual(calls["peg_grammar_free"], 2)
+
+    def test_a_pool_of_eight_threads_parses_as_one_thread(self):
+        grammar = Grammar("Sum <- Number ('+' Number)* !.\nNumber <- [0-9]+\n")
+        # Every third sum ends with a sign, where a number is missing.
+        texts = ["+".join(map(str, range(count % 50 + 1))) + "+" * (count % 3 == 0) for count in range(400)]
+
+        def outcome(text):
+            answer = grammar.match(text)
+            if not answer:
+                return str(answer.error())
+            return [(node.rule, node.start, node.end) for node in answer.root.walk()]
+
+        with ThreadPoolExecutor(8) as pool:
+            self.assertEqual(list(pool.map(outcome, texts)), list(map(outcome, texts)))
+
+    def test_threads_make_and_drop_grammars(self):
+        shared = Grammar(CHAIN)
+
+        def parse(number):
+            consumed = 0
+            for _ in range(50):
+                grammar = Grammar(CHAIN if number % 2 else b"S <- 'a'* 'b'\n")
+                consumed += grammar.parse("a" * number + "b").consumed + shared.parse("ab").consumed
+            return consumed
+
+        self.assertEqual(run_threads(8, parse), [50 * (number + 3) for number in range(8)])
 
 
 if __name__ == "__main__":

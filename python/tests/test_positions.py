@@ -192,7 +192,7 @@ class Errors(unittest.TestCase):
 
     def test_messages_are_those_of_the_library(self):
         grammar = Grammar("S <- [\\x00-\\x20\\x22-\\xFF]*\n")
-        handle = grammar._handle()
+        handle = grammar._explainer()
         long = ["b" * 300 + "!" + "c" * 300, "a" + "\xfc" * 300 + "!"]
         texts = [text.encode("utf-8") for text in ("a!", "a\nb\r\nc!", "\t\x01\x7f!", "\xfc\xdf\x85!", *long)]
         for data in (*texts, b"a\n\x80b\xff!"):

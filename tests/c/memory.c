@@ -1,8 +1,8 @@
-/* memory GRAMMAR TEXT: refuses each request for memory of a reading, a parse and an explanation in turn, alone and with
- * all later ones. Each call has to return PEG_OUT_OF_MEMORY, leave the handles as they were and release what it
- * requested, or to have the answer. It makes at most ten times the requests and the steps that it takes without a
- * refusal. The text to be explained is all but the last byte of TEXT. Link it with the linker's options --wrap=malloc,
- * --wrap=realloc and --wrap=free. */
+/* memory GRAMMAR TEXT: refuses each request for memory of a reading, a parse, an explanation, the same by an explainer,
+ * and of sharing a handle in turn, alone and with all later ones. Each call has to return PEG_OUT_OF_MEMORY, leave the
+ * handles as they were and release what it requested, or to have the answer. It makes at most ten times the requests
+ * and the steps that it takes without a refusal. The text to be explained is all but the last byte of TEXT. Link it
+ * with the linker's options --wrap=malloc, --wrap=realloc and --wrap=free. */
 #include "../../examples/c/files.h"
 #include "peg.h"
 
@@ -154,6 +154,70 @@ static long refuse_in_explaining(peg_grammar *grammar, const uint8_t *text, size
     }
 }
 
+static long refuse_in_reading_an_explainer(const uint8_t *file, size_t length) {
+    for (long n = -1;; n++) {
+        peg_explainer explainer = PEG_NULL;
+        long before = blocks;
+        refuse_request(n);
+        uint32_t status = peg_explainer_read(file, length, &explainer);
+        int more = was_refused(status == PEG_OK, status, explainer.opaque == NULL, before, n);
+        peg_explainer_free(&explainer);
+        if (!more) {
+            return n;
+        }
+    }
+}
+
+static long refuse_in_explaining_by(peg_explainer *explainer, const uint8_t *text, size_t length, uint32_t memo) {
+    for (long n = -1;; n++) {
+        peg_explanation explanation = PEG_NULL;
+        long before = blocks;
+        void *held = explainer->opaque;
+        refuse_request(n);
+        uint32_t status = peg_explainer_explain(explainer, (const uint8_t *)"text", 4, text, length,
+                                                (const uint8_t *)"", 0, memo, 0, &explanation);
+        int has_answer = status == PEG_OK || status == PEG_FAILED;
+        int is_unchanged = explanation.opaque == NULL && explainer->opaque == held;
+        int more = was_refused(has_answer, status, is_unchanged, before, n);
+        peg_explanation_free(&explanation);
+        if (!more) {
+            return n;
+        }
+    }
+}
+
+static void refuse_in_explainers(const uint8_t *file, size_t file_length, const uint8_t *text, size_t text_length) {
+    long reading = refuse_in_reading_an_explainer(file, file_length);
+    peg_explainer explainer = PEG_NULL;
+    most_requests = 0;
+    if (peg_explainer_read(file, file_length, &explainer) != PEG_OK) {
+        fail("the explainer is refused", 0);
+    }
+    long explanation = refuse_in_explaining_by(&explainer, text, text_length - 1, PEG_DEFAULT_MEMO);
+    peg_explainer_free(&explainer);
+    printf("memory: refused %ld requests of reading an explainer, %ld of an explanation by it%s\n", reading,
+           explanation, is_lasting ? ", each with all later ones" : "");
+}
+
+static long refuse_in_sharing(peg_grammar *grammar) {
+    for (long n = -1;; n++) {
+        peg_grammar other = PEG_NULL;
+        long before = blocks;
+        void *held = grammar->opaque;
+        refuse_request(n);
+        uint32_t status = peg_grammar_share(grammar, &other);
+        int is_unchanged = other.opaque == NULL && grammar->opaque == held;
+        int more = was_refused(status == PEG_OK, status, is_unchanged, before, n);
+        peg_grammar_free(&other);
+        if (blocks != before) {
+            fail("the other handle keeps memory", n);
+        }
+        if (!more) {
+            return n;
+        }
+    }
+}
+
 static void refuse_in_calls(const uint8_t *file, size_t file_length, const uint8_t *text, size_t text_length) {
     long reading = refuse_in_reading(file, file_length, PEG_OK);
     long refusal = refuse_in_reading((const uint8_t *)"A <- 'a'\nS <- B", 15, PEG_REFUSED);
@@ -164,9 +228,11 @@ static void refuse_in_calls(const uint8_t *file, size_t file_length, const uint8
     }
     long parse = refuse_in_parsing(&grammar, text, text_length, PEG_DEFAULT_MEMO);
     long explanation = refuse_in_explaining(&grammar, text, text_length - 1, PEG_DEFAULT_MEMO);
+    long sharing = refuse_in_sharing(&grammar);
     peg_grammar_free(&grammar);
-    printf("memory: refused %ld requests of a reading, %ld of a refusal, %ld of a parse, %ld of an explanation%s\n",
-           reading, refusal, parse, explanation, is_lasting ? ", each with all later ones" : "");
+    printf("memory: refused %ld requests of a reading, %ld of a refusal, %ld of a parse, %ld of an explanation, %ld of "
+           "sharing%s\n",
+           reading, refusal, parse, explanation, sharing, is_lasting ? ", each with all later ones" : "");
 }
 
 int main(int argc, char **argv) {
@@ -180,6 +246,7 @@ int main(int argc, char **argv) {
     long live = blocks;
     for (is_lasting = 0; is_lasting <= 1; is_lasting++) {
         refuse_in_calls(file, file_length, text, text_length);
+        refuse_in_explainers(file, file_length, text, text_length);
     }
     if (blocks != live) {
         fail("memory is left", blocks - live);

@@ -35,8 +35,8 @@ static uint32_t explain(peg_grammar *grammar, const char *text, const char *star
 }
 
 static void null_handles_give_nothing(void) {
-    peg_grammar grammar = PEG_NULL;
-    peg_match match = PEG_NULL;
+    peg_grammar grammar = PEG_NULL, other_grammar = PEG_NULL;
+    peg_match match = PEG_NULL, other_match = PEG_NULL;
     peg_refusal_info info = {9, 9, 9, 9, 9};
     peg_summary summary = {9, 9, 9, 9, 9, 9};
     peg_node node = {9, 9, 9, 9, 9};
@@ -45,6 +45,8 @@ static void null_handles_give_nothing(void) {
     uint32_t count = 9;
     CHECK(parse(&grammar, "a", "", 0, &match) == PEG_WRONG_HANDLE);
     CHECK(match.opaque == NULL);
+    CHECK(peg_grammar_share(&grammar, &other_grammar) == PEG_WRONG_HANDLE && other_grammar.opaque == NULL);
+    CHECK(peg_match_share(&match, &other_match) == PEG_WRONG_HANDLE && other_match.opaque == NULL);
     CHECK(peg_rule_count(&grammar, &count) == PEG_WRONG_HANDLE && count == 9);
     CHECK(peg_rule_name(&grammar, 0, &byte, 1) == 0 && byte == 9);
     CHECK(peg_grammar_refusal(&grammar, &byte, 1) == 0 && byte == 9);
@@ -60,7 +62,7 @@ static void null_handles_give_nothing(void) {
 
 static void null_explanations_give_nothing(void) {
     peg_grammar grammar = PEG_NULL;
-    peg_explanation explanation = PEG_NULL;
+    peg_explanation explanation = PEG_NULL, other = PEG_NULL;
     peg_mismatch mismatch = {9, 9, 9};
     peg_span span = {9, 9};
     uint8_t byte = 9;
@@ -68,8 +70,61 @@ static void null_explanations_give_nothing(void) {
     CHECK(peg_explanation_message(&explanation, &byte, 1) == 0 && byte == 9);
     CHECK(peg_explanation_mismatch(&explanation, &mismatch) == PEG_WRONG_HANDLE && mismatch.position == 9);
     CHECK(peg_explanation_expected(&explanation, 0, &span, 1) == 0 && span.end == 9);
+    CHECK(peg_explanation_share(&explanation, &other) == PEG_WRONG_HANDLE && other.opaque == NULL);
     peg_explanation_free(&explanation);
     CHECK(explanation.opaque == NULL);
+}
+
+static uint32_t explain_by(peg_explainer *explainer, const char *text, const char *start, uint64_t steps,
+                           peg_explanation *out) {
+    return peg_explainer_explain(explainer, bytes("t"), 1, bytes(text), strlen(text), bytes(start), strlen(start),
+                                 PEG_DEFAULT_MEMO, steps, out);
+}
+
+/* A call on an explainer has the status of the call on a grammar. */
+static void explainers_have_the_statuses_of_grammars(void) {
+    peg_explainer explainer = PEG_NULL, other = PEG_NULL;
+    peg_grammar grammar = PEG_NULL;
+    peg_explanation explanation = PEG_NULL;
+    uint8_t message[100] = {0};
+    CHECK(explain_by(&explainer, "a", "", 0, &explanation) == PEG_WRONG_HANDLE && explanation.opaque == NULL);
+    CHECK(peg_explainer_share(&explainer, &other) == PEG_WRONG_HANDLE && other.opaque == NULL);
+    CHECK(peg_explainer_read(bytes("S <- T"), 6, &explainer) == PEG_REFUSED && explainer.opaque == NULL);
+    CHECK(peg_explainer_read(bytes("S <- 'a' 'b'"), 12, &explainer) == PEG_OK);
+    CHECK(explain_by((peg_explainer *)&grammar, "a", "", 0, &explanation) == PEG_WRONG_HANDLE);
+    CHECK(explain((peg_grammar *)&explainer, "a", "", 0, &explanation) == PEG_WRONG_HANDLE);
+    CHECK(explain_by(&explainer, "ab", "", 0, &explanation) == PEG_OK && explanation.opaque == NULL);
+    CHECK(explain_by(&explainer, "ab", "T", 0, &explanation) == PEG_NO_SUCH_START && explanation.opaque == NULL);
+    CHECK(explain_by(&explainer, "ab", "", 1, &explanation) == PEG_STEP_LIMIT && explanation.opaque == NULL);
+    CHECK(explain_by(&explainer, "ac", "S", 0, &explanation) == PEG_FAILED);
+    const char *expected = "t:1:2: expected 'b', found 'c'\nac\n ^\n";
+    size_t length = peg_explanation_message(&explanation, message, sizeof message);
+    CHECK(length == strlen(expected) && strcmp((char *)message, expected) == 0);
+    peg_explanation_free(&explanation);
+    peg_explainer_free(&explainer);
+    CHECK(explainer.opaque == NULL);
+}
+
+/* A handle keeps what it holds when a handle that shares it is freed or gets something else. */
+static void shared_handles_are_independent(void) {
+    peg_grammar grammar = PEG_NULL, other = PEG_NULL;
+    peg_match match = PEG_NULL, other_match = PEG_NULL;
+    peg_summary summary = {9, 9, 9, 9, 9, 9};
+    CHECK(read_grammar("S <- 'a'+", &grammar) == PEG_OK);
+    CHECK(peg_grammar_share(&grammar, &other) == PEG_OK && other.opaque != NULL && other.opaque != grammar.opaque);
+    CHECK(peg_grammar_share(&grammar, &other) == PEG_OK);
+    CHECK(read_grammar("S <- 'b'", &grammar) == PEG_OK);
+    CHECK(parse(&grammar, "aa", "", 0, &match) == PEG_FAILED && parse(&other, "aa", "", 0, &match) == PEG_OK);
+    CHECK(peg_match_share(&match, &other_match) == PEG_OK);
+    peg_match_free(&match);
+    CHECK(peg_match_summary(&other_match, &summary) == PEG_OK && summary.consumed == 2);
+    peg_grammar_free(&grammar);
+    CHECK(parse(&other, "aaa", "", 0, &match) == PEG_OK);
+    CHECK(peg_match_summary(&match, &summary) == PEG_OK && summary.consumed == 3);
+    CHECK(peg_match_summary(&other_match, &summary) == PEG_OK && summary.consumed == 2);
+    peg_match_free(&match);
+    peg_match_free(&other_match);
+    peg_grammar_free(&other);
 }
 
 /* The types of handles have one form, so a cast can exchange them. */
@@ -211,6 +266,8 @@ static void names_and_positions_fit_their_buffers(void) {
 int main(void) {
     null_handles_give_nothing();
     null_explanations_give_nothing();
+    shared_handles_are_independent();
+    explainers_have_the_statuses_of_grammars();
     other_handles_are_reported();
     refusals_have_their_place();
     parses_have_their_statuses();

@@ -54,9 +54,10 @@ static const struct shape SHAPES[] = {
 static uint8_t *file;
 static size_t file_length;
 static const uint8_t TEXT[] = "bcbcbabdbe";
-static peg_grammar grammar = PEG_NULL;
-static peg_match match = PEG_NULL;
-static peg_explanation explanation = PEG_NULL;
+static peg_grammar grammar = PEG_NULL, shared_grammar = PEG_NULL;
+static peg_match match = PEG_NULL, shared_match = PEG_NULL;
+static peg_explanation explanation = PEG_NULL, shared_explanation = PEG_NULL;
+static peg_explainer explainer = PEG_NULL, shared_explainer = PEG_NULL;
 static uint8_t line[4096];
 static uint32_t accepted, refused;
 
@@ -134,6 +135,12 @@ static void explain_with_memo(void) {
     peg_explain(&grammar, TEXT, 1, TEXT, sizeof TEXT - 1, TEXT, 0, PEG_DEFAULT_MEMO, STEPS, &explanation);
 }
 
+static void read_explainer(void) { peg_explainer_read(file, file_length, &explainer); }
+
+static void explain_by_explainer(void) {
+    peg_explainer_explain(&explainer, TEXT, 1, TEXT, sizeof TEXT - 1, TEXT, 0, PEG_DEFAULT_MEMO, STEPS, &explanation);
+}
+
 static void message(void) { peg_explanation_message(&explanation, line, sizeof line); }
 
 static void mismatch(void) {
@@ -153,7 +160,25 @@ static void locate(void) {
 
 static void version(void) { peg_version(line, sizeof line); }
 
+static void share_grammar(void) { peg_grammar_share(&grammar, &shared_grammar); }
+
+static void share_match(void) { peg_match_share(&match, &shared_match); }
+
+static void share_explanation(void) { peg_explanation_share(&explanation, &shared_explanation); }
+
+static void share_explainer(void) { peg_explainer_share(&explainer, &shared_explainer); }
+
+/* Frees what the four handles hold, since the first handles are freed before. */
+static void free_shared(void) {
+    peg_grammar_free(&shared_grammar);
+    peg_match_free(&shared_match);
+    peg_explanation_free(&shared_explanation);
+    peg_explainer_free(&shared_explainer);
+}
+
 static void free_explanation(void) { peg_explanation_free(&explanation); }
+
+static void free_explainer(void) { peg_explainer_free(&explainer); }
 
 static void free_match(void) { peg_match_free(&match); }
 
@@ -177,15 +202,23 @@ static const struct {
     {"peg_match_expected", expected},
     {"peg_explain without a memo", explain},
     {"peg_explain with a memo", explain_with_memo},
+    {"peg_explainer_read", read_explainer},
+    {"peg_explainer_explain", explain_by_explainer},
     {"peg_explanation_message", message},
     {"peg_explanation_mismatch", mismatch},
     {"peg_explanation_expected", explained},
     {"peg_locate", locate},
     {"peg_version", version},
+    {"peg_grammar_share", share_grammar},
+    {"peg_match_share", share_match},
+    {"peg_explanation_share", share_explanation},
+    {"peg_explainer_share", share_explainer},
     {"peg_explanation_free", free_explanation},
+    {"peg_explainer_free", free_explainer},
     {"peg_match_free", free_match},
     {"peg_grammar_read over a grammar", read_grammar},
     {"peg_grammar_free", free_grammar},
+    {"the last handles' peg_.._free", free_shared},
 };
 
 #define COUNT(items) (sizeof(items) / sizeof *(items))

@@ -1,5 +1,5 @@
 -- Steps of walks that open and close a handle. They assume `Logic`.
-use Rattle.std.proofs.Common.{◌≡◌, ℕ, List, [], ◌∷◌, ◌++◌, refl, subst}
+use Rattle.std.proofs.Common.{◌≡◌, ℕ, List, [], ◌∷◌, ◌++◌, ap, refl, subst, sym}
 use mathlib.Core.Bool.{true, ◌&&◌}
 use lib.Dec.{T}
 use seplogic.Ra.Ura.{Ura}
@@ -33,16 +33,19 @@ use Rattle.std.proofs.alloc.Global.TheLaws as heap_laws
 use Rattle.std.specs.contracts.impls.GlobalAllocator.TheImpl.{ghosts}
 use Rattle.std_alloc.specs.Box.Ownership.{box_owns}
 use Rattle.peg_handle.specs.contracts.content.Content as content
-use Rattle.peg_c.specs.HandleOwns.{handle_owns}
+use Rattle.peg_c.specs.HandleOwns.{Owner, handle_owns, owner_at}
 use Rattle.peg_c.specs.contracts.handle.Handle as handle
 use Rattle.peg_c.proofs.FieldPairs.{both_typed, field_pair}
 
--- the types of a handle, of its content and of the heap
+-- the types of a handle, of its content, of an owner of that and of the heap
 abbrev pub HandleRow : RattleType
 HandleRow = handle.the_row
 
 abbrev pub ContentRow : RattleType
 ContentRow = content.the_row
+
+abbrev pub OwnerRow : RattleType
+OwnerRow = Owner ContentRow
 
 abbrev pub Heap : RattleType
 Heap = heap.the_row
@@ -66,16 +69,16 @@ handle_typed address heap good = (
 
 module _ {M : Type 1} {𝓤 : Ura M} (𝓛 : Logic 𝓤) where
   -- the address of a box may be compared with null
-  pub box_testable : (alloc : Global) (address : Ptr) (value : ContentRow.Denot)
-      → ent 𝓤 (sem 𝓛 (box_owns (ghosts.dealloc_token alloc) ContentRow address value))
-      (guard 𝓤 (Testable address) (sem 𝓛 (box_owns (ghosts.dealloc_token alloc) ContentRow address value)))
+  pub box_testable : (alloc : Global) (address : Ptr) (value : OwnerRow.Denot)
+      → ent 𝓤 (sem 𝓛 (box_owns (ghosts.dealloc_token alloc) OwnerRow address value))
+      (guard 𝓤 (Testable address) (sem 𝓛 (box_owns (ghosts.dealloc_token alloc) OwnerRow address value)))
   box_testable alloc address value =
       fact_use 𝓤 (Testable address)
-      (via 𝓤 _ (snd∗ 𝓤 (sem 𝓛 (lies_at ContentRow full_share address value))
-      (sem 𝓛 (ghosts.dealloc_token alloc (erased (lone ContentRow.mir)) address)))
-      (dealloc_token-Testable 𝓛 alloc (erased (lone ContentRow.mir)) address))
+      (via 𝓤 _ (snd∗ 𝓤 (sem 𝓛 (lies_at OwnerRow full_share address value))
+      (sem 𝓛 (ghosts.dealloc_token alloc (erased (lone OwnerRow.mir)) address)))
+      (dealloc_token-Testable 𝓛 alloc (erased (lone OwnerRow.mir)) address))
       (guard_i 𝓤 (Testable address)
-      (sem 𝓛 (box_owns (ghosts.dealloc_token alloc) ContentRow address value)))
+      (sem 𝓛 (box_owns (ghosts.dealloc_token alloc) OwnerRow address value)))
 
 module _ {M : Type 1} {𝓤 : Ura M} {𝓛 : Logic 𝓤} {K : Type 0} {Γ : List (Item 𝓤)} {G : Goal 𝓤 𝓛.H} where
   -- a handle gives its address, its heap and what it owns
@@ -110,19 +113,29 @@ module _ {M : Type 1} {𝓤 : Ura M} {𝓛 : Logic 𝓤} {K : Type 0} {Γ : List
       (ptr_val address ∷ [], (heap ∷ [], tt)) $
       fjoin k $ rest)
 
-  -- a handle is null and has no content, or it owns a box whose address may be compared with null
+  -- a box with an owner is what a handle of its content owns
+  pub owner_close : K → (alloc : Global) (address : Ptr) (owner : OwnerRow.Denot)
+      → Step K 𝓛 (‵ (handle_owns ContentRow alloc address (Some owner.value)) ∷ Γ) G
+      (‵ (box_owns (ghosts.dealloc_token alloc) OwnerRow address owner) ∷ Γ) G
+  owner_close k alloc address owner = step (λ rest.
+      feq_i k ContentRow.Denot owner.value owner.value refl $ fjoin k $
+      fpack k OwnerRow.Denot (owner_at ContentRow alloc address owner.value) owner $ rest)
+
+  -- a handle is null and has no content, or it owns a box whose address may be compared with null, with an owner of the
+  -- content
   pub null_or_box : K → (alloc : Global) (address : Ptr) (held : Option ContentRow.Denot)
       → (address ≡ null_ptr → held ≡ None → Seq K 𝓛 Γ G)
-      → ((block offset : ℕ) (value : ContentRow.Denot) → address ≡ block_ptr block offset → held ≡ Some value
+      → ((block offset : ℕ) (owner : OwnerRow.Denot) → address ≡ block_ptr block offset → held ≡ Some owner.value
       → Testable (block_ptr block offset)
-      → Seq K 𝓛 (‵ (box_owns (ghosts.dealloc_token alloc) ContentRow (block_ptr block offset) value) ∷ Γ) G)
+      → Seq K 𝓛 (‵ (box_owns (ghosts.dealloc_token alloc) OwnerRow (block_ptr block offset) owner) ∷ Γ) G)
       → Seq K 𝓛 (‵ (handle_owns ContentRow alloc address held) ∷ Γ) G
   null_or_box k alloc address None if_null if_box = feq_l k (λ is_null. if_null is_null refl)
-  null_or_box k alloc address (Some value) if_null if_box =
-      in_a_block k address (λ place. box_owns (ghosts.dealloc_token alloc) ContentRow place value)
-      (fst∗ 𝓤 (never 𝓤) (sem 𝓛 (ghosts.dealloc_token alloc (erased (lone ContentRow.mir)) null_ptr)))
+  null_or_box k alloc address (Some content) if_null if_box =
+      fpick k (λ owner. fsplit k $ feq_l k (λ of_owner.
+      in_a_block k address (λ place. box_owns (ghosts.dealloc_token alloc) OwnerRow place owner)
+      (fst∗ 𝓤 (never 𝓤) (sem 𝓛 (ghosts.dealloc_token alloc (erased (lone OwnerRow.mir)) null_ptr)))
       (λ block offset at_block.
-      let Boxed = box_owns (ghosts.dealloc_token alloc) ContentRow (block_ptr block offset) value in
+      let Boxed = box_owns (ghosts.dealloc_token alloc) OwnerRow (block_ptr block offset) owner in
       use1 𝓛 (given (Testable (block_ptr block offset)) (‵ Boxed))
-      (box_testable 𝓛 alloc (block_ptr block offset) value) $
-      learn k (λ testable. if_box block offset value at_block refl testable))
+      (box_testable 𝓛 alloc (block_ptr block offset) owner) $
+      learn k (λ testable. if_box block offset owner at_block (ap (λ (c : ContentRow.Denot). Some c) (sym of_owner)) testable))))

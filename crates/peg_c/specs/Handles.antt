@@ -6,15 +6,17 @@ use Rattle.peg_semantics.specs.Rules.{Rule}
 use Rattle.peg_tree.specs.declared.outcome.Parsed.{Parsed}
 use Rattle.peg_tree.specs.declared.outcome.Parsed.TheVariants as parsed
 use Rattle.peg_handle.specs.Answers.{IsAnswerTo}
-use Rattle.peg_handle.specs.Contents.{content_expected, content_mismatch, content_grammar, content_info, content_json}
+use Rattle.peg_handle.specs.Contents.{content_expected, content_explainer, content_mismatch, content_grammar}
+use Rattle.peg_handle.specs.Contents.{content_info, content_json}
 use Rattle.peg_handle.specs.Contents.{content_message, content_name, content_nodes, content_reason, content_rules}
 use Rattle.peg_handle.specs.Contents.{content_spans, content_summary}
-use Rattle.peg_handle.specs.Explanations.{IsExplanationOf}
+use Rattle.peg_handle.specs.Explanations.{IsCompiled, IsExplanationOf}
 use Rattle.peg_handle.specs.Rejections.{IsRejectionOf}
 use Rattle.peg_handle.specs.declared.content.Content.{Content}
-use Rattle.peg_handle.specs.declared.content.Content.TheVariants.{Accepted, Rejected, Answered, Explained}
+use Rattle.peg_handle.specs.declared.content.Content.TheVariants.{Accepted, Rejected, Answered, Explained, Explaining}
 use Rattle.peg_handle.specs.declared.content.FileSpan.{FileSpan}
 use Rattle.peg_handle.specs.declared.content.GrammarFile.{GrammarFile}
+use Rattle.peg_handle.specs.declared.content.TextExplainer.{TextExplainer}
 use Rattle.peg_handle.specs.declared.explanation_calls.MismatchInfo.{MismatchInfo}
 use Rattle.peg_handle.specs.declared.nodes.Node.{Node}
 use Rattle.peg_handle.specs.declared.refusal_info.RefusalInfo.{RefusalInfo}
@@ -27,6 +29,7 @@ HoldsParserOf file (Some (Accepted grammar)) = (grammar.bytes.items ≡ file) ×
 HoldsParserOf file (Some (Rejected rejection)) = ⊥
 HoldsParserOf file (Some (Answered found)) = ⊥
 HoldsParserOf file (Some (Explained explanation)) = ⊥
+HoldsParserOf file (Some (Explaining explainer)) = ⊥
 
 -- the handle holds the reason why this grammar file is rejected
 abbrev pub HoldsRejectionOf : (file : List ℕ) → Option Content → Type 0
@@ -35,6 +38,7 @@ HoldsRejectionOf file (Some (Accepted grammar)) = ⊥
 HoldsRejectionOf file (Some (Rejected rejection)) = IsRejectionOf file rejection
 HoldsRejectionOf file (Some (Answered found)) = ⊥
 HoldsRejectionOf file (Some (Explained explanation)) = ⊥
+HoldsRejectionOf file (Some (Explaining explainer)) = ⊥
 
 -- the handle holds an answer of this grammar to a text from a start
 abbrev pub HoldsAnswerTo : List Rule → (text start : List ℕ) → (memo : ℕ) → Option Content → Type 0
@@ -43,6 +47,7 @@ HoldsAnswerTo rules text start memo (Some (Accepted grammar)) = ⊥
 HoldsAnswerTo rules text start memo (Some (Rejected rejection)) = ⊥
 HoldsAnswerTo rules text start memo (Some (Answered found)) = IsAnswerTo rules text start memo found
 HoldsAnswerTo rules text start memo (Some (Explained explanation)) = ⊥
+HoldsAnswerTo rules text start memo (Some (Explaining explainer)) = ⊥
 
 -- the handle holds the explanation of a text from a start, by this grammar file
 abbrev pub HoldsExplanationOf : GrammarFile → (name text : List ℕ) → (start : Option (List ℕ)) → Option Content → Type 0
@@ -52,6 +57,17 @@ HoldsExplanationOf file name text start (Some (Rejected rejection)) = ⊥
 HoldsExplanationOf file name text start (Some (Answered found)) = ⊥
 HoldsExplanationOf file name text start (Some (Explained explanation)) =
     IsExplanationOf file name text start (Some explanation)
+HoldsExplanationOf file name text start (Some (Explaining explainer)) = ⊥
+
+-- the handle holds the compiled explainer of this grammar file, which is accepted
+abbrev pub HoldsExplainerOf : (file : List ℕ) → Option Content → Type 0
+HoldsExplainerOf file None = ⊥
+HoldsExplainerOf file (Some (Accepted grammar)) = ⊥
+HoldsExplainerOf file (Some (Rejected rejection)) = ⊥
+HoldsExplainerOf file (Some (Answered found)) = ⊥
+HoldsExplainerOf file (Some (Explained explanation)) = ⊥
+HoldsExplainerOf file (Some (Explaining explainer)) =
+    (explainer.grammar.bytes.items ≡ file) × Accepts file (parser_rules explainer.grammar.parser) × IsCompiled explainer
 
 abbrev pub IsMatched : Parsed → Type 0
 IsMatched parsed.Failed = ⊥
@@ -64,6 +80,7 @@ HoldsMatched (Some (Accepted grammar)) = ⊥
 HoldsMatched (Some (Rejected rejection)) = ⊥
 HoldsMatched (Some (Answered found)) = IsMatched found.answer.outcome.result
 HoldsMatched (Some (Explained explanation)) = ⊥
+HoldsMatched (Some (Explaining explainer)) = ⊥
 
 -- the handle holds an answer by which no prefix of the text matched
 abbrev pub HoldsFailed : Option Content → Type 0
@@ -72,6 +89,7 @@ HoldsFailed (Some (Accepted grammar)) = ⊥
 HoldsFailed (Some (Rejected rejection)) = ⊥
 HoldsFailed (Some (Answered found)) = ¬ IsMatched found.answer.outcome.result
 HoldsFailed (Some (Explained explanation)) = ⊥
+HoldsFailed (Some (Explaining explainer)) = ⊥
 
 -- the handle holds an answer that took at most this many steps
 abbrev pub HoldsWithin : (limit : ℕ) → Option Content → Type 0
@@ -80,10 +98,15 @@ HoldsWithin limit (Some (Accepted grammar)) = ⊥
 HoldsWithin limit (Some (Rejected rejection)) = ⊥
 HoldsWithin limit (Some (Answered found)) = found.answer.steps ≤ limit
 HoldsWithin limit (Some (Explained explanation)) = ⊥
+HoldsWithin limit (Some (Explaining explainer)) = ⊥
 
 abbrev pub held_rules : Option Content → Option (List Rule)
 held_rules None = None
 held_rules (Some content) = content_rules content
+
+abbrev pub held_explainer : Option Content → Option TextExplainer
+held_explainer None = None
+held_explainer (Some content) = content_explainer content
 
 abbrev pub held_name : Option Content → (rule : ℕ) → List ℕ
 held_name None rule = []

@@ -10,6 +10,7 @@ ghost use Rattle.peg_handle.specs.Starts.{start_of_bytes, step_limit};
 ghost use Rattle.peg_semantics.specs.Starts.{start_name};
 
 use crate::handle::Handle;
+use crate::sharing::share;
 use crate::store::store;
 use peg_handle::{
     Content, DONE, FAILED, FileSpan, MismatchInfo, NO_SUCH_START, OUT_OF_MEMORY, STEP_LIMIT,
@@ -107,7 +108,24 @@ fn explain_into(
     }
 }
 
-/// Frees what a handle holds, and leaves it null.
+/// Makes `out` another handle of the same explanation. The two handles own it together, and may be used and freed by
+/// different threads. Constant time, but for what `out` held before.
+#[unsafe(no_mangle)]
+pub extern "C" fn peg_explanation_share(
+    alloc: Global,
+    explanation: &mut Handle,
+    out: &mut Handle,
+) -> u32
+    ensures kept { explanation.new.content ≡ explanation.old.content }
+    ensures statuses { result ≢ DONE → result ≢ WRONG_HANDLE → result ≡ OUT_OF_MEMORY }
+    ensures shared { result ≡ DONE → out.new.content ≡ explanation.old.content }
+    ensures wrong { (result ≡ WRONG_HANDLE) ↔ (explanation.old.content ≡ None) }
+    ensures unchanged { result ≢ DONE → out.new.content ≡ out.old.content }
+{
+    share(alloc, explanation, out)
+}
+
+/// Leaves a handle null, and frees its content if no other handle owns it.
 #[unsafe(no_mangle)]
 pub extern "C" fn peg_explanation_free(alloc: Global, explanation: &mut Handle)
     ensures { explanation.new.content ≡ None }

@@ -4,6 +4,7 @@ ghost use Rattle.peg_c.specs.Handles.{HoldsParserOf, HoldsRejectionOf, held_info
 ghost use Rattle.peg_c.specs.Handles.{held_rules};
 
 use crate::handle::Handle;
+use crate::sharing::share;
 use crate::store::store;
 use peg_handle::{
     Content, DONE, OUT_OF_MEMORY, REFUSED, ReadFault, RefusalInfo, WRONG_HANDLE, copy_json_of,
@@ -38,7 +39,20 @@ pub extern "C" fn peg_grammar_read(alloc: Global, file: &[u8], out: &mut Handle)
     }
 }
 
-/// Frees what a handle holds, and leaves it null.
+/// Makes `out` another handle of the same grammar or refusal. The two handles own it together, and may be used and freed by
+/// different threads. Constant time, but for what `out` held before.
+#[unsafe(no_mangle)]
+pub extern "C" fn peg_grammar_share(alloc: Global, grammar: &mut Handle, out: &mut Handle) -> u32
+    ensures kept { grammar.new.content ≡ grammar.old.content }
+    ensures statuses { result ≢ DONE → result ≢ WRONG_HANDLE → result ≡ OUT_OF_MEMORY }
+    ensures shared { result ≡ DONE → out.new.content ≡ grammar.old.content }
+    ensures wrong { (result ≡ WRONG_HANDLE) ↔ (grammar.old.content ≡ None) }
+    ensures unchanged { result ≢ DONE → out.new.content ≡ out.old.content }
+{
+    share(alloc, grammar, out)
+}
+
+/// Leaves a handle null, and frees its content if no other handle owns it.
 #[unsafe(no_mangle)]
 pub extern "C" fn peg_grammar_free(alloc: Global, grammar: &mut Handle)
     ensures { grammar.new.content ≡ None }

@@ -8,6 +8,7 @@ use crate::raw_box::RawBox;
 use peg_handle::Content;
 use std::alloc::Global;
 use std::marker::Model;
+use std::sync::Arc;
 
 /// What a handle points to, as C sees it. C code neither reads nor writes it.
 #[repr(C)]
@@ -15,7 +16,8 @@ pub struct Opaque {
     byte: u8,
 }
 
-/// A handle: for C, a struct of one pointer. A null handle has no content. Any other owns its content, on the heap.
+/// A handle: for C, a struct of one pointer. A null handle has no content. Any other owns its content, on the heap,
+/// alone or together with other handles. No handle changes it, and the last one frees it.
 #[repr(C)]
 pub struct Handle {
     address: *mut Opaque,
@@ -42,8 +44,8 @@ impl Handle {
     }
 
     // Returns the handle of a box that was taken apart.
-    fn from_raw_box(raw: RawBox<Content, Global>) -> Handle
-        ensures { result.content ≡ Some raw.value }
+    fn from_raw_box(raw: RawBox<Arc<Content, Global>, Global>) -> Handle
+        ensures { result.content ≡ Some raw.value.value }
     {
         let RawBox { address, alloc } = raw;
         Handle {
@@ -53,8 +55,8 @@ impl Handle {
     }
 
     // Returns the box of a handle, taken apart, or nothing for a null handle.
-    fn into_raw_box(self) -> Option<RawBox<Content, Global>>
-        ensures { option_map (λ raw. raw.value) result ≡ self.content }
+    fn into_raw_box(self) -> Option<RawBox<Arc<Content, Global>, Global>>
+        ensures { option_map (λ raw. raw.value.value) result ≡ self.content }
     {
         let Handle { address, alloc } = self;
         if address.is_null() {
@@ -68,15 +70,15 @@ impl Handle {
     }
 
     /// Returns the handle that owns this content. Allocates nothing.
-    pub(crate) fn new(content: Box<Content>) -> Handle
-        ensures { result.content ≡ Some content.value }
+    pub(crate) fn new(content: Box<Arc<Content, Global>>) -> Handle
+        ensures { result.content ≡ Some content.value.value }
     {
         Handle::from_raw_box(RawBox::from_box(content))
     }
 
     /// Takes the content out of a handle, which is null from then on.
-    pub(crate) fn take(&mut self, alloc: Global) -> Option<Box<Content>>
-        ensures content { option_map (λ content. content.value) result ≡ self.old.content }
+    pub(crate) fn take(&mut self, alloc: Global) -> Option<Box<Arc<Content, Global>>>
+        ensures content { option_map (λ content. content.value.value) result ≡ self.old.content }
         ensures left { self.new.content ≡ None }
     {
         let handle = std::mem::replace(self, Handle::null(alloc));

@@ -1,11 +1,14 @@
 //! The C library: handles, and the calls of `include/peg.h`. Each call states the clauses of its body in `peg_handle`.
 #![tactic(auto)]
 
+mod explainers;
 mod explanations;
 mod grammars;
 mod handle;
+pub mod laws;
 mod matches;
 mod raw_box;
+mod sharing;
 mod store;
 mod texts;
 

@@ -9,6 +9,7 @@ ghost use Rattle.peg_c.specs.Handles.{HoldsAnswerTo, HoldsFailed, HoldsMatched, 
 ghost use Rattle.peg_c.specs.Handles.{held_nodes, held_rules, held_spans, held_summary};
 
 use crate::handle::Handle;
+use crate::sharing::share;
 use crate::store::store;
 use peg_handle::{
     Content, DONE, FAILED, FileSpan, Match, NO_SUCH_START, Node, OUT_OF_MEMORY, STEP_LIMIT,
@@ -116,7 +117,20 @@ fn status_of(found: &Match) -> u32
     }
 }
 
-/// Frees what a handle holds, and leaves it null.
+/// Makes `out` another handle of the same answer. The two handles own it together, and may be used and freed by
+/// different threads. Constant time, but for what `out` held before.
+#[unsafe(no_mangle)]
+pub extern "C" fn peg_match_share(alloc: Global, found: &mut Handle, out: &mut Handle) -> u32
+    ensures kept { found.new.content ≡ found.old.content }
+    ensures statuses { result ≢ DONE → result ≢ WRONG_HANDLE → result ≡ OUT_OF_MEMORY }
+    ensures shared { result ≡ DONE → out.new.content ≡ found.old.content }
+    ensures wrong { (result ≡ WRONG_HANDLE) ↔ (found.old.content ≡ None) }
+    ensures unchanged { result ≢ DONE → out.new.content ≡ out.old.content }
+{
+    share(alloc, found, out)
+}
+
+/// Leaves a handle null, and frees its content if no other handle owns it.
 #[unsafe(no_mangle)]
 pub extern "C" fn peg_match_free(alloc: Global, found: &mut Handle)
     ensures { found.new.content ≡ None }

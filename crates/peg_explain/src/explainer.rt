@@ -24,6 +24,7 @@ ghost use Rattle.peg_explain.specs.Explanations.{shown_item};
 ghost use Rattle.peg_explain.specs.Namings.{AreItemsFor};
 ghost use Rattle.peg_explain.specs.Reports.{is_whole_match, named_position};
 
+use crate::blames::{Blames, compile_blames};
 use crate::expected::{
     Items, MAX_NAMED, first_numbers, items_of_failure, spans_of_terminals, unnamed_items,
 };
@@ -31,7 +32,7 @@ use crate::mismatch::{Analysis, ExpectedItem, Mismatch};
 use crate::names::{Naming, Rest};
 use crate::outcomes::{are_items_expected, is_end_expected, is_whole_match, named_position};
 use crate::style::ItemStyle;
-use peg_blame::{BlameFault, BlameParser};
+use peg_blame::BlameParser;
 use peg_messages::{Failure, Item};
 use peg_parser::{Answer, ParseFault, ParseOptions, Parser};
 use peg_tree::{Outcome, RuleSet};
@@ -42,12 +43,12 @@ use std::alloc::{AllocError, Global};
 pub struct Explainer<'a> {
     file: &'a [u8],
     parser: &'a Parser,
-    blames: Option<BlameParser>,
+    blames: Blames<'a>,
     style: ItemStyle,
 }
 
 impl<'a> Explainer<'a> {
-    ghost use Rattle.peg_explain.specs.Explainers.{IsExplainerOf};
+    ghost use Rattle.peg_explain.specs.Explainers.{IsBlameOf, IsExplainerOf};
 
     /// Returns the explainer of a grammar file and its parser, whose messages have a style. The only error is a failed
     /// allocation.
@@ -63,20 +64,32 @@ impl<'a> Explainer<'a> {
         ensures made { IfOk result (IsExplainerOf file.now (parser_rules parser.now)) }
         ensures styled { IfOk result (λ explainer. explainer.style ≡ style) }
     {
-        match BlameParser::new(alloc, parser.grammar()) {
-            Ok(blames) => Ok(Explainer {
-                file,
-                parser,
-                blames: Some(blames),
-                style,
-            }),
-            Err(BlameFault::Memory) => Err(AllocError),
-            Err(_) => Ok(Explainer {
-                file,
-                parser,
-                blames: None,
-                style,
-            }),
+        let blames = compile_blames(alloc, parser)?;
+        Ok(Explainer {
+            file,
+            parser,
+            blames: Blames::Owned(blames),
+            style,
+        })
+    }
+
+    /// Returns the explainer of a grammar file and its parser by what `compile_blames` returned for the parser. Its
+    /// messages are those of `new`. Compiles nothing.
+    pub fn with_blames(
+        file: &'a [u8],
+        parser: &'a Parser,
+        blames: &'a Option<BlameParser>,
+        style: ItemStyle,
+    ) -> Explainer<'a>
+        ensures made { IsBlameOf (parser_rules parser.now) blames.now
+            → IsExplainerOf file.now (parser_rules parser.now) result }
+        ensures styled { result.style ≡ style }
+    {
+        Explainer {
+            file,
+            parser,
+            blames: Blames::Kept(blames),
+            style,
         }
     }
 
@@ -158,7 +171,7 @@ impl<'a> Explainer<'a> {
         ensures within { (file : List ℕ) (rules : List Rule) → IsExplainerOf file rules self.now
             → OnOk result (ExplainingAnswersWithin rules text.now (start_named options.now) options.now.steps) }
     {
-        match &self.blames {
+        match self.blames.get() {
             Some(blames) => {
                 let answer = blames.blame(alloc, text, options)?;
                 let expected = self.items_by_blame(alloc, blames, text, options, &answer)?;

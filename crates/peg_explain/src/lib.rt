@@ -1,6 +1,7 @@
 //! Explanations: where texts don't match a grammar file, and why a grammar file is refused, as messages for people.
 #![tactic(auto)]
 
+mod blames;
 mod expected;
 mod explainer;
 mod mismatch;
@@ -9,6 +10,7 @@ mod outcomes;
 mod refusals;
 mod style;
 
+pub use blames::compile_blames;
 pub use explainer::Explainer;
 pub use mismatch::{Analysis, ExpectedItem, Mismatch};
 pub use refusals::refusal_message;

@@ -6,9 +6,10 @@ use Rattle.peg_handle.specs.Explanations.{mismatch_info}
 use Rattle.peg_handle.specs.Nodes.{match_nodes}
 use Rattle.peg_handle.specs.Summaries.{match_summary}
 use Rattle.peg_handle.specs.declared.content.Content.{Content}
-use Rattle.peg_handle.specs.declared.content.Content.TheVariants.{Accepted, Rejected, Answered, Explained}
+use Rattle.peg_handle.specs.declared.content.Content.TheVariants.{Accepted, Rejected, Answered, Explained, Explaining}
 use Rattle.peg_handle.specs.declared.content.FileSpan.{FileSpan}
 use Rattle.peg_handle.specs.declared.content.GrammarFile.{GrammarFile}
+use Rattle.peg_handle.specs.declared.content.TextExplainer.{TextExplainer}
 use Rattle.peg_handle.specs.declared.explanation_calls.MismatchInfo.{MismatchInfo}
 use Rattle.peg_handle.specs.declared.nodes.Node.{Node}
 use Rattle.peg_handle.specs.declared.refusal_info.RefusalInfo.{RefusalInfo}
@@ -20,6 +21,7 @@ content_rules (Accepted grammar) = Some (parser_rules grammar.parser)
 content_rules (Rejected rejection) = None
 content_rules (Answered found) = None
 content_rules (Explained explanation) = None
+content_rules (Explaining explainer) = None
 
 -- an accepted grammar file and its parser, if the content is one
 abbrev pub content_grammar : Content → Option GrammarFile
@@ -27,6 +29,15 @@ content_grammar (Accepted grammar) = Some grammar
 content_grammar (Rejected rejection) = None
 content_grammar (Answered found) = None
 content_grammar (Explained explanation) = None
+content_grammar (Explaining explainer) = None
+
+-- a grammar file that explains texts, if the content is one
+abbrev pub content_explainer : Content → Option TextExplainer
+content_explainer (Accepted grammar) = None
+content_explainer (Rejected rejection) = None
+content_explainer (Answered found) = None
+content_explainer (Explained explanation) = None
+content_explainer (Explaining explainer) = Some explainer
 
 -- the name of a rule; no bytes if there is no such rule, or no grammar
 abbrev pub content_name : Content → (rule : ℕ) → List ℕ
@@ -34,6 +45,7 @@ content_name (Accepted grammar) rule = name_of (parser_rules grammar.parser) rul
 content_name (Rejected rejection) rule = []
 content_name (Answered found) rule = []
 content_name (Explained explanation) rule = []
+content_name (Explaining explainer) rule = []
 
 -- the line of JSON of a refusal; no bytes if there is no refusal
 abbrev pub content_json : Content → List ℕ
@@ -41,6 +53,7 @@ content_json (Accepted grammar) = []
 content_json (Rejected rejection) = string_bytes rejection.json
 content_json (Answered found) = []
 content_json (Explained explanation) = []
+content_json (Explaining explainer) = []
 
 -- the message of a refusal, after the name of the file; no bytes if there is no refusal
 abbrev pub content_reason : Content → List ℕ
@@ -48,6 +61,7 @@ content_reason (Accepted grammar) = []
 content_reason (Rejected rejection) = rejection.message.items
 content_reason (Answered found) = []
 content_reason (Explained explanation) = []
+content_reason (Explaining explainer) = []
 
 -- the kind and the place of a refusal
 abbrev pub content_info : Content → Option RefusalInfo
@@ -55,6 +69,7 @@ content_info (Accepted grammar) = None
 content_info (Rejected rejection) = Some rejection.info
 content_info (Answered found) = None
 content_info (Explained explanation) = None
+content_info (Explaining explainer) = None
 
 -- the summary of an answer
 abbrev pub content_summary : Content → Option Summary
@@ -62,6 +77,7 @@ content_summary (Accepted grammar) = None
 content_summary (Rejected rejection) = None
 content_summary (Answered found) = Some (match_summary found)
 content_summary (Explained explanation) = None
+content_summary (Explaining explainer) = None
 
 -- the nodes of the tree of an answer; none if there is no tree
 abbrev pub content_nodes : Content → List Node
@@ -69,6 +85,7 @@ content_nodes (Accepted grammar) = []
 content_nodes (Rejected rejection) = []
 content_nodes (Answered found) = match_nodes found
 content_nodes (Explained explanation) = []
+content_nodes (Explaining explainer) = []
 
 -- the spans of the terminals that failed furthest; none if there is no answer
 abbrev pub content_spans : Content → List FileSpan
@@ -76,6 +93,7 @@ content_spans (Accepted grammar) = []
 content_spans (Rejected rejection) = []
 content_spans (Answered found) = found.expected.items
 content_spans (Explained explanation) = []
+content_spans (Explaining explainer) = []
 
 -- the message of an explanation; no bytes if there is no explanation
 abbrev pub content_message : Content → List ℕ
@@ -83,6 +101,7 @@ content_message (Accepted grammar) = []
 content_message (Rejected rejection) = []
 content_message (Answered found) = []
 content_message (Explained explanation) = explanation.message.items
+content_message (Explaining explainer) = []
 
 -- the spans of the items that an explanation expects; none if there is no explanation
 abbrev pub content_expected : Content → List FileSpan
@@ -90,6 +109,7 @@ content_expected (Accepted grammar) = []
 content_expected (Rejected rejection) = []
 content_expected (Answered found) = []
 content_expected (Explained explanation) = explanation.expected.items
+content_expected (Explaining explainer) = []
 
 -- an explanation without its message
 abbrev pub content_mismatch : Content → Option MismatchInfo
@@ -97,3 +117,4 @@ content_mismatch (Accepted grammar) = None
 content_mismatch (Rejected rejection) = None
 content_mismatch (Answered found) = None
 content_mismatch (Explained explanation) = Some (mismatch_info explanation)
+content_mismatch (Explaining explainer) = None

@@ -1,6 +1,7 @@
 -- What an explanation says about a grammar file and a text.
 use Rattle.std.specs.Prelude.{◌≡◌, ℕ, false, if◌then◌else◌, List, IfSome, Option, None, Some, length, map}
 use Rattle.peg_bytes.specs.Extent.{extent}
+use Rattle.peg_explain.specs.Explainers.{IsBlameOf}
 use Rattle.peg_explain.specs.Explanations.{IsMismatchIn, IsMismatchMessage}
 use Rattle.peg_explain.specs.declared.mismatch.Mismatch.{Mismatch}
 use Rattle.peg_explain.specs.Styles.{style_of}
@@ -11,6 +12,7 @@ use Rattle.peg_semantics.specs.Starts.{start_name}
 use Rattle.peg_handle.specs.Answers.{file_span}
 use Rattle.peg_handle.specs.declared.content.Explanation.{Explanation}
 use Rattle.peg_handle.specs.declared.content.GrammarFile.{GrammarFile}
+use Rattle.peg_handle.specs.declared.content.TextExplainer.{TextExplainer}
 use Rattle.peg_handle.specs.declared.explanation_calls.MismatchInfo.{MismatchInfo}
 
 -- classes and dots are written as names of rules, where that is possible; rules aren't shown
@@ -38,6 +40,10 @@ IsExplanationOf grammar name text start explanation =
     (mismatch : Option Mismatch)
     × IsMismatchIn (parser_rules grammar.parser) named_style text from mismatch
     × Explains grammar.bytes.items (parser_rules grammar.parser) name text mismatch explanation)
+
+-- the parser of blame is that of the grammar, or the grammar has none
+abbrev pub IsCompiled : TextExplainer → Type 0
+IsCompiled explainer = IsBlameOf (parser_rules explainer.grammar.parser) explainer.blames
 
 -- an explanation without its message
 abbrev pub mismatch_info : Explanation → MismatchInfo

@@ -3,6 +3,7 @@ ghost use Rattle.std.specs.Prelude.{◌≡◌};
 ghost use Rattle.peg_handle.specs.Levels.{parsed_levels};
 
 use crate::refusal_info::RefusalInfo;
+use peg_blame::BlameParser;
 use peg_parser::{Answer, Parser};
 
 /// The content of a handle.
@@ -16,6 +17,8 @@ pub enum Content {
     Answered(Match),
     /// Where a text doesn't match as a whole.
     Explained(Explanation),
+    /// An accepted grammar file that explains texts.
+    Explaining(TextExplainer),
 }
 
 /// An accepted grammar file, and its parser.
@@ -23,6 +26,14 @@ pub enum Content {
 pub struct GrammarFile {
     pub bytes: Vec<u8>,
     pub parser: Parser,
+}
+
+/// An accepted grammar file that explains texts: its diagnostic grammar is compiled.
+#[derive(Drop)]
+pub struct TextExplainer {
+    pub grammar: GrammarFile,
+    /// What `compile_blames` returned for the parser.
+    pub blames: Option<BlameParser>,
 }
 
 /// Why a grammar file was rejected.

@@ -6,14 +6,14 @@ ghost use Rattle.peg_explain.specs.Explainers.{IsExplainerOf};
 ghost use Rattle.peg_explain.specs.Explanations.{ExplainingAnswersWithin, ExplainingStaysWithin, ExplainingTakesMoreSteps};
 ghost use Rattle.peg_grammar.specs.Limits.{max_text_bytes};
 ghost use Rattle.peg_handle.specs.Answers.{file_span};
-ghost use Rattle.peg_handle.specs.Explanations.{IsExplanationOf, ShowsMismatch, named_style};
+ghost use Rattle.peg_handle.specs.Explanations.{IsCompiled, IsExplanationOf, ShowsMismatch, named_style};
 ghost use Rattle.peg_handle.specs.Starts.{start_of_bytes, step_limit};
 ghost use Rattle.peg_parser.specs.ParseContract.{HasParseFaults};
 ghost use Rattle.peg_parser.specs.Parser.{parser_rules, start_named};
 ghost use Rattle.peg_semantics.specs.Rules.{Rule};
 ghost use Rattle.peg_semantics.specs.Starts.{start_name};
 
-use crate::content::{Explanation, FileSpan, GrammarFile};
+use crate::content::{Explanation, FileSpan, GrammarFile, TextExplainer};
 use crate::start::{limit_from, start_from};
 use peg_explain::{ExpectedItem, Explainer, ItemStyle, Mismatch};
 use peg_grammar::MAX_TEXT_BYTES;
@@ -75,9 +75,83 @@ fn explain_from(
 {
     let style = ItemStyle::from_flags(false, false);
     let explainer = Explainer::new(alloc, &grammar.bytes, &grammar.parser, style)?;
+    explain_with(alloc, grammar, &explainer, name, text, options)
+}
+
+/// Explains as `explain` does, by a grammar whose diagnostic grammar is compiled. Compiles nothing.
+pub fn explain_compiled(
+    alloc: Global,
+    compiled: &TextExplainer,
+    name: &[u8],
+    text: &[u8],
+    start: &[u8],
+    memo: u32,
+    steps: u64,
+) -> Result<Option<Explanation>, ParseFault>
+    ensures explained { IsCompiled compiled.now
+        → IfOk result (IsExplanationOf compiled.now.grammar name.now text.now (start_of_bytes start.now)) }
+    ensures faults { IsCompiled compiled.now
+        → HasParseFaults (parser_rules compiled.now.grammar.parser) text.now (start_of_bytes start.now) result }
+    ensures limited { IsCompiled compiled.now → IsErrOf result ParseFault.StepLimit
+        → ExplainingTakesMoreSteps (parser_rules compiled.now.grammar.parser) text.now (start_of_bytes start.now)
+        (step_limit steps) }
+    ensures enough { IsCompiled compiled.now → memo ≡ 0
+        → OnOk result (ExplainingStaysWithin (parser_rules compiled.now.grammar.parser) text.now
+        (start_of_bytes start.now) (step_limit steps)) }
+    ensures within { IsCompiled compiled.now
+        → OnOk result (ExplainingAnswersWithin (parser_rules compiled.now.grammar.parser) text.now
+        (start_of_bytes start.now) (step_limit steps)) }
+{
+    let grammar = &compiled.grammar;
+    let start = start_from(grammar.parser.grammar(), start)?;
+    if text.len() > MAX_TEXT_BYTES {
+        return Err(ParseFault::TextTooLong);
+    }
+    let options = ParseOptions {
+        start,
+        memo,
+        steps: limit_from(steps),
+    };
+    let style = ItemStyle::from_flags(false, false);
+    let explainer = Explainer::with_blames(
+        &grammar.bytes,
+        &grammar.parser,
+        &compiled.blames,
+        style,
+    );
+    explain_with(alloc, grammar, &explainer, name, text, &options)
+}
+
+// Explains from a start that has a rule, by an explainer of the grammar.
+fn explain_with(
+    alloc: Global,
+    grammar: &GrammarFile,
+    explainer: &Explainer<'_>,
+    name: &[u8],
+    text: &[u8],
+    options: &ParseOptions<'_>,
+) -> Result<Option<Explanation>, ParseFault>
+    requires short { length text.now ≤ max_text_bytes }
+    requires start { (from : List ℕ)
+        × (start_name (parser_rules grammar.now.parser) (start_named options.now) ≡ Some from) }
+    requires styled { explainer.now.style ≡ named_style }
+    ensures explained { IsExplainerOf grammar.now.bytes.items (parser_rules grammar.now.parser) explainer.now
+        → IfOk result (IsExplanationOf grammar.now name.now text.now (start_named options.now)) }
+    ensures faults { IsExplainerOf grammar.now.bytes.items (parser_rules grammar.now.parser) explainer.now
+        → IfErr result (λ why. (why ≡ ParseFault.StepLimit) ⊎ (why ≡ ParseFault.Memory)) }
+    ensures limited { IsExplainerOf grammar.now.bytes.items (parser_rules grammar.now.parser) explainer.now
+        → IsErrOf result ParseFault.StepLimit → ExplainingTakesMoreSteps (parser_rules grammar.now.parser)
+        text.now (start_named options.now) options.now.steps }
+    ensures enough { IsExplainerOf grammar.now.bytes.items (parser_rules grammar.now.parser) explainer.now
+        → options.now.memo ≡ 0 → OnOk result (ExplainingStaysWithin (parser_rules grammar.now.parser) text.now
+        (start_named options.now) options.now.steps) }
+    ensures within { IsExplainerOf grammar.now.bytes.items (parser_rules grammar.now.parser) explainer.now
+        → OnOk result (ExplainingAnswersWithin (parser_rules grammar.now.parser) text.now
+        (start_named options.now) options.now.steps) }
+{
     match explainer.mismatch(alloc, text, options)? {
         Some(mismatch) => {
-            let explanation = explanation_of(alloc, &explainer, name, text, &mismatch)?;
+            let explanation = explanation_of(alloc, explainer, name, text, &mismatch)?;
             Ok(Some(explanation))
         }
         None => Ok(None),

@@ -4,14 +4,15 @@ ghost use Rattle.std.specs.Prelude.{length, min, slice_get, OnOk};
 ghost use Rattle.peg_explain.specs.Explanations.{ExplainingAnswersWithin, ExplainingStaysWithin, ExplainingTakesMoreSteps};
 ghost use Rattle.peg_grammar.specs.Limits.{max_text_bytes};
 ghost use Rattle.peg_handle.specs.Contents.{content_expected, content_mismatch, content_grammar, content_message};
-ghost use Rattle.peg_handle.specs.Contents.{content_rules};
-ghost use Rattle.peg_handle.specs.Explanations.{IsExplanationOf, mismatch_info};
+ghost use Rattle.peg_handle.specs.Contents.{content_explainer, content_rules};
+ghost use Rattle.peg_handle.specs.Explanations.{IsCompiled, IsExplanationOf, mismatch_info};
 ghost use Rattle.peg_handle.specs.Starts.{start_of_bytes, step_limit};
+ghost use Rattle.peg_parser.specs.Parser.{parser_rules};
 ghost use Rattle.peg_semantics.specs.Starts.{start_name};
 
 use crate::buffers::{copy_items, copy_text};
 use crate::content::{Content, Explanation, FileSpan};
-use crate::explaining::explain;
+use crate::explaining::{explain, explain_compiled};
 use crate::status::{DONE, NO_SUCH_START, STEP_LIMIT, TEXT_TOO_LONG, WRONG_HANDLE, fault_status};
 use std::alloc::Global;
 
@@ -58,6 +59,49 @@ pub fn explain_by(
     match content {
         Content::Accepted(grammar) => {
             match explain(alloc, grammar, name, text, start, memo, steps) {
+                Ok(explanation) => Ok(explanation),
+                Err(fault) => Err(fault_status(fault)),
+            }
+        }
+        _ => Err(WRONG_HANDLE),
+    }
+}
+
+/// Explains by a handle's compiled explainer where a text doesn't match as a whole. An error is a status from
+/// `NO_SUCH_START` to `TEXT_TOO_LONG`.
+pub fn explain_by_explainer(
+    alloc: Global,
+    content: &Content,
+    name: &[u8],
+    text: &[u8],
+    start: &[u8],
+    memo: u32,
+    steps: u64,
+) -> Result<Option<Explanation>, u32>
+    ensures wrong { IsErrOf result WRONG_HANDLE ↔ (content_explainer content.now ≡ None) }
+    ensures explained { IfSome (content_explainer content.now) (λ explainer. IsCompiled explainer
+        → IfOk result (IsExplanationOf explainer.grammar name.now text.now (start_of_bytes start.now))) }
+    ensures no_start { IfSome (content_explainer content.now) (λ explainer. IsCompiled explainer
+        → (IsErrOf result NO_SUCH_START
+        ↔ (start_name (parser_rules explainer.grammar.parser) (start_of_bytes start.now) ≡ None))) }
+    ensures long { IfSome (content_explainer content.now) (λ explainer. IsCompiled explainer → (from : List ℕ)
+        → start_name (parser_rules explainer.grammar.parser) (start_of_bytes start.now) ≡ Some from
+        → (IsErrOf result TEXT_TOO_LONG ↔ (max_text_bytes < length text.now))) }
+    ensures limited { IfSome (content_explainer content.now) (λ explainer. IsCompiled explainer
+        → IsErrOf result STEP_LIMIT → ExplainingTakesMoreSteps (parser_rules explainer.grammar.parser) text.now
+        (start_of_bytes start.now) (step_limit steps)) }
+    ensures enough { IfSome (content_explainer content.now) (λ explainer. IsCompiled explainer → memo ≡ 0
+        → OnOk result (ExplainingStaysWithin (parser_rules explainer.grammar.parser) text.now
+        (start_of_bytes start.now) (step_limit steps))) }
+    ensures within { IfSome (content_explainer content.now) (λ explainer. IsCompiled explainer
+        → OnOk result (ExplainingAnswersWithin (parser_rules explainer.grammar.parser) text.now
+        (start_of_bytes start.now) (step_limit steps))) }
+    ensures least { IfErr result (λ status. NO_SUCH_START ≤ status) }
+    ensures greatest { IfErr result (λ status. status ≤ TEXT_TOO_LONG) }
+{
+    match content {
+        Content::Explaining(explainer) => {
+            match explain_compiled(alloc, explainer, name, text, start, memo, steps) {
                 Ok(explanation) => Ok(explanation),
                 Err(fault) => Err(fault_status(fault)),
             }

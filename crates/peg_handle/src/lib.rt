@@ -23,14 +23,15 @@ pub use calls::{
     copy_json_of, copy_name_of, copy_nodes_of, copy_reason_of, copy_spans_of, parse_by, write_info,
     write_rule_count, write_summary,
 };
-pub use content::{Content, Explanation, FileSpan, GrammarFile, Match, Rejection};
-pub use explaining::explain;
+pub use content::{Content, Explanation, FileSpan, GrammarFile, Match, Rejection, TextExplainer};
+pub use explaining::{explain, explain_compiled};
 pub use explanation_calls::{
-    MismatchInfo, copy_expected_of, copy_message_of, explain_by, write_mismatch,
+    MismatchInfo, copy_expected_of, copy_message_of, explain_by, explain_by_explainer,
+    write_mismatch,
 };
 pub use nodes::{Node, copy_nodes};
 pub use parsing::parse;
-pub use reading::{ReadFault, read};
+pub use reading::{ReadFault, read, read_explainer};
 pub use refusal_info::RefusalInfo;
 pub use rule_names::copy_rule_name;
 pub use status::{

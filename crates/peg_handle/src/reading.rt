@@ -1,6 +1,7 @@
 //! Reading grammar files.
 ghost use Rattle.std.specs.Prelude.{◌≡◌, ◌≢◌, ◌<◌, ◌≤◌, IfErr, IfOk, IfSome, length};
 ghost use Rattle.peg_metagrammar.specs.Notation.{max_file_bytes};
+ghost use Rattle.peg_handle.specs.Explanations.{IsCompiled};
 ghost use Rattle.peg_handle.specs.ReadFaults.{IsRejectedBy};
 ghost use Rattle.peg_handle.specs.Rejections.{IsRejectionOf};
 ghost use Rattle.peg_parser.specs.Accepts.{Accepts};
@@ -8,8 +9,9 @@ ghost use Rattle.peg_parser.specs.Faults.{HasCause, HasDefinitionsOf, RefusalMea
 ghost use Rattle.peg_parser.specs.Parser.{parser_rules};
 ghost use Rattle.peg_parser.specs.Refusals.{IsRefusalOf};
 
-use crate::content::{GrammarFile, Rejection};
+use crate::content::{GrammarFile, Rejection, TextExplainer};
 use crate::rejection::rejection_for;
+use peg_explain::compile_blames;
 use peg_notation::{MAX_FILE_BYTES, NotationFault};
 use peg_parser::{Parser, Refusal};
 use std::alloc::{AllocError, Global};
@@ -48,6 +50,18 @@ pub fn read(alloc: Global, file: &[u8]) -> Result<GrammarFile, ReadFault>
         Err(Refusal::Memory) => Err(ReadFault::Memory),
         Err(refusal) => Err(ReadFault::Rejected(rejection(alloc, file, &refusal)?)),
     }
+}
+
+/// Returns a grammar file, its parser and the compiled grammar of its explanations, or why the file is rejected.
+pub fn read_explainer(alloc: Global, file: &[u8]) -> Result<TextExplainer, ReadFault>
+    ensures accepted { IfOk result (λ explainer. Accepts file.now (parser_rules explainer.grammar.parser)) }
+    ensures bytes { IfOk result (λ explainer. explainer.grammar.bytes.items ≡ file.now) }
+    ensures compiled { IfOk result IsCompiled }
+    ensures rejected { IfErr result (IsRejectedBy file.now) }
+{
+    let grammar = read(alloc, file)?;
+    let blames = compile_blames(alloc, &grammar.parser)?;
+    Ok(TextExplainer { grammar, blames })
 }
 
 // Returns a parser with a copy of its grammar file.

@@ -9,7 +9,7 @@ An empty file ends where its first rule should begin.
   $
   ^$
 
-Only at the start of the file a byte order mark is named as one.
+Only at the start of the file a byte order mark has a sentence of its own.
 
   $ printf 'A \357\273\277' > g
   $ pegtool explain g | cat -A

@@ -1,4 +1,5 @@
-use Rattle.std.proofs.Common.{◌≡◌, ◌≤◌, IfSome, Option, Some, subst}
+use Rattle.std.specs.Arc.{arc_value}
+use Rattle.std.proofs.Common.{ap, ◌∙◌, ◌≡◌, ◌≤◌, IfSome, Option, Some, subst}
 use Rattle.peg_handle.specs.Starts.{start_of_bytes, step_limit}
 use Rattle.peg_handle.specs.declared.content.Content.{Content}
 use Rattle.peg_handle.specs.declared.status.TheConstants.{FAILED}
@@ -12,4 +13,5 @@ returns-in-Some-clause-enough c =
     → c.parse_into-status.result ≤ FAILED
     → ¬ (TakesMoreSteps rules c.args.text.now (start_of_bytes c.args.start.now) (step_limit c.args.steps))) in
     subst Enough c.in-Some.ensures.content
-    (subst (λ (content : Content). Enough (Some content)) c.deref.ensures c.parse_into-status.ensures.enough)
+    (subst (λ (content : Content). Enough (Some content)) (c.deref-in-Some.ensures ∙ ap arc_value c.deref.ensures)
+    c.parse_into-status.ensures.enough)

@@ -1,96 +1,10 @@
-use Rattle.std.proofs.Common.{◌≡◌, ◌∙◌, ◌⊎◌, ℕ, IfSome, List, Option, None, Some, subst}
+use Rattle.std.proofs.Common.{ℕ, List, subst}
 use Rattle.peg_explain.specs.Explainers.{IsExplainerOf}
-use Rattle.peg_explain.specs.Explanations.{IsMismatchIn}
-use Rattle.peg_explain.specs.declared.mismatch.Mismatch.{Mismatch}
-use Rattle.peg_explain.specs.declared.style.ItemStyle.{ItemStyle}
-use Rattle.peg_parser.specs.Parser.{parser_rules, start_named}
-use Rattle.peg_parser.specs.declared.parser.ParseFault.{ParseFault}
-use Rattle.peg_parser.specs.declared.parser.ParseFault.TheVariants as fault
-use Rattle.peg_semantics.specs.Starts.{start_name}
-use Rattle.peg_handle.specs.Explanations.{named_style}
-use Rattle.peg_handle.proofs.AnswerLemmas.{err_of}
-use Rattle.peg_handle.proofs.ExplanationLemmas.{IsMismatchOf, explains, other-faults, passed-on}
+use Rattle.peg_parser.specs.Parser.{parser_rules}
 use Rattle.peg_handle.proofs.explaining.explain_from.Goals as goal
-use Rattle.peg_handle.proofs.explaining.explain_from.Goals.{In_ok-explainer}
 
--- the explainer is that of the grammar file
-made : (c : In_ok-explainer)
-    → IsExplainerOf c.args.grammar.now.bytes.items (parser_rules c.args.grammar.now.parser) c.in_ok-explainer.explainer
-made c =
-    subst (λ (file : List ℕ). IsExplainerOf file (parser_rules c.args.grammar.now.parser) c.in_ok-explainer.explainer)
-    c.deref.ensures.value c.in_ok-explainer.ensures.made
-
--- its style is that of handles
-styled : (c : In_ok-explainer) → c.in_ok-explainer.explainer.style ≡ named_style
-styled c = c.in_ok-explainer.ensures.styled ∙ c.from_flags-style.ensures
-
-pub returns-in_err-mismatch-clause-faults : goal.returns-in_err-mismatch-clause-faults
-returns-in_err-mismatch-clause-faults c =
-    let grammar = c.args.grammar.now in
-    let rules = parser_rules grammar.parser in
-    let explainer = made (goal.at.returns-in_err-mismatch-clause-faults c).In_ok-explainer in
-    let from = c.requires.start in
-    passed-on (λ (why : ParseFault). (why ≡ fault.StepLimit) ⊎ (why ≡ fault.Memory)) c.from_residual-in_err-mismatch.result
-    c.in_err-mismatch.field-0.0 c.from_residual-in_err-mismatch.ensures.1
-    (other-faults {V = Option Mismatch} (start_name rules (start_named c.args.options.now)) from.0 c.args.text.now
-    c.in_err-mismatch.field-0.0 from.1 c.requires.short
-    (λ is. (c.in_err-mismatch.ensures.no_start grammar.bytes.items rules explainer).0 is)
-    (λ is. (c.in_err-mismatch.ensures.long grammar.bytes.items rules from.0 explainer from.1).0 is))
-
-pub returns-in_err-mismatch-clause-limited : goal.returns-in_err-mismatch-clause-limited
-returns-in_err-mismatch-clause-limited c is =
-    let grammar = c.args.grammar.now in
-    c.in_err-mismatch.ensures.limited grammar.bytes.items (parser_rules grammar.parser)
-    (made (goal.at.returns-in_err-mismatch-clause-limited c).In_ok-explainer)
-    (err_of _ _ _ c.from_residual-in_err-mismatch.ensures.1 is)
-
-pub returns-in-Some-clause-explained : goal.returns-in-Some-clause-explained
-returns-in-Some-clause-explained c =
-    let grammar = c.args.grammar.now in
-    let text = c.args.text.now in
-    let rules = parser_rules grammar.parser in
-    let found = start_name rules (start_named c.args.options.now) in
-    let explainer = made (goal.at.returns-in-Some-clause-explained c).In_ok-explainer in
-    let is = subst (λ (m : Option Mismatch). IfSome found (IsMismatchOf grammar text m)) c.in-Some.is
-    (subst (λ (style : ItemStyle). IfSome found (λ start. IsMismatchIn rules style text start
-    c.in_ok-mismatch.field-0)) (styled (goal.at.returns-in-Some-clause-explained c).In_ok-explainer)
-    (c.in_ok-mismatch.ensures.mismatch grammar.bytes.items rules explainer)) in
-    explains grammar c.args.name.now text found (Some c.in-Some.mismatch) (Some c.in_ok-explanation-in-Some.explanation) is
-    (c.in_ok-explanation-in-Some.ensures grammar.bytes.items rules explainer)
-
-pub returns-clause-explained : goal.returns-clause-explained
-returns-clause-explained c =
-    let grammar = c.args.grammar.now in
-    let text = c.args.text.now in
-    let rules = parser_rules grammar.parser in
-    let found = start_name rules (start_named c.args.options.now) in
-    let explainer = made (goal.at.returns-clause-explained c).In_ok-explainer in
-    let is = subst (λ (m : Option Mismatch). IfSome found (IsMismatchOf grammar text m)) c.in-None.is
-    (subst (λ (style : ItemStyle). IfSome found (λ start. IsMismatchIn rules style text start
-    c.in_ok-mismatch.field-0)) (styled (goal.at.returns-clause-explained c).In_ok-explainer)
-    (c.in_ok-mismatch.ensures.mismatch grammar.bytes.items rules explainer)) in
-    explains grammar c.args.name.now text found None None is tt
-
-pub returns-in-Some-clause-enough : goal.returns-in-Some-clause-enough
-returns-in-Some-clause-enough c no_memo =
-    let grammar = c.args.grammar.now in
-    c.in_ok-mismatch.ensures.enough grammar.bytes.items (parser_rules grammar.parser)
-    (made (goal.at.returns-in-Some-clause-enough c).In_ok-explainer) no_memo
-
-pub returns-clause-enough : goal.returns-clause-enough
-returns-clause-enough c no_memo =
-    let grammar = c.args.grammar.now in
-    c.in_ok-mismatch.ensures.enough grammar.bytes.items (parser_rules grammar.parser)
-    (made (goal.at.returns-clause-enough c).In_ok-explainer) no_memo
-
-pub returns-in-Some-clause-within : goal.returns-in-Some-clause-within
-returns-in-Some-clause-within c =
-    let grammar = c.args.grammar.now in
-    c.in_ok-mismatch.ensures.within grammar.bytes.items (parser_rules grammar.parser)
-    (made (goal.at.returns-in-Some-clause-within c).In_ok-explainer)
-
-pub returns-clause-within : goal.returns-clause-within
-returns-clause-within c =
-    let grammar = c.args.grammar.now in
-    c.in_ok-mismatch.ensures.within grammar.bytes.items (parser_rules grammar.parser)
-    (made (goal.at.returns-clause-within c).In_ok-explainer)
+pub returns-clause-limited : goal.returns-clause-limited
+returns-clause-limited c =
+    c.explain_with.ensures.limited
+    (subst (λ (file : List ℕ). IsExplainerOf file (parser_rules c.args.grammar.now.parser) c.in_ok-explainer.explainer)
+    c.deref.ensures.value c.in_ok-explainer.ensures.made)

@@ -23,7 +23,7 @@ use Rattle.std.specs.declared.option.Option.TheVariants.{Some}
 use Rattle.std.specs.contracts.impls.GlobalAllocator.TheImpl.{ghosts}
 use Rattle.peg_handle.specs.declared.content.Content.{Content}
 use Rattle.peg_c.proofs.FieldPairs.{field_pair}
-use Rattle.peg_c.proofs.HandleSteps.{ContentRow, Heap, handle_close, handle_typed, heap_rules}
+use Rattle.peg_c.proofs.HandleSteps.{Heap, OwnerRow, handle_close, handle_typed, heap_rules, owner_close}
 use Rattle.peg_c.proofs.RawBoxSteps.{RawBox, raw_box_open, raw_box_typed}
 use Rattle.peg_c.specs.contracts.handle.Handle.from_raw_box.{clauses, ended}
 use Rattle.peg_c.specs.contracts.handle.Handle.from_raw_box.Key.{name as #self}
@@ -36,7 +36,7 @@ from_raw_box_spec 𝓤 𝓛 𝓜 𝓡 wired =
     let 𝓣 = tables 𝓤 H 𝓜 𝓡 𝓡.env in
     let contract = clauses 𝓛 𝓜.mem 𝓡.returns in
     let body = code.function in
-    let Raw : RattleType = RawBox ContentRow Heap heap_rules ghosts in
+    let Raw : RattleType = RawBox OwnerRow Heap heap_rules ghosts in
     let stays : Stays ended.signature.params ended.kept = (stay_dropped (plain (λ _. Raw)) yes, tt) in
     proved_at 𝓛 ended stays contract 𝓜 𝓡 (Goes-blank 𝓛 0 (plain (λ _. Raw)) yes (λ κs x f. tt), tt) #self body
     (code.unfolded 𝓤 H 𝓜 𝓡 wired) (λ call are.
@@ -44,23 +44,24 @@ from_raw_box_spec 𝓤 𝓛 𝓜 𝓡 wired =
     let given = call.0.3.0 in
     let Post : Val → SProp 𝓤 = (walk_of 𝓛 ended stays contract).post call in
     let Runs : List Val → SProp 𝓤 = λ args. WpFn 𝓤 H 𝓣.C 𝓣.Λ body args Post in
-    let held : Option Content = Some given.value in
+    let held : Option Content = Some given.value.value in
     qed 𝓛 ((‵ ftrue ⊛ ‵ (owns (types_at ended.signature.params κs) call.0.3 call.0.4))
     ∷ raw ((contract κs call.0.3).requires call.1) ∷ []) ∵
     split ! $ move ! (1 ∷ []) $ fsplit ! $
-    raw_box_open ContentRow Heap heap_rules ghosts ! given call.0.4.0 (λ block offset heap at_block words good.
+    raw_box_open OwnerRow Heap heap_rules ghosts ! given call.0.4.0 (λ block offset heap at_block words good.
     let word : Val = field_pair (vptr block offset) heap in
     suffices ! (Runs (word ∷ []))
     (subst (λ (args : List Val). ent 𝓤 (Runs (word ∷ [])) (Runs args)) (sym (λ i. words i ++ []))
     (id⊢ 𝓤 (Runs (word ∷ [])))) $
     -- the two fields, and the struct
     enter ! 𝓣.C 𝓣.Λ body (word ∷ []) Post $
-    alloc_all ! (λ l. pass_all ! refl (raw_box_typed ContentRow Heap heap_rules ghosts block offset heap good, tt) $
+    alloc_all ! (λ l. pass_all ! refl (raw_box_typed OwnerRow Heap heap_rules ghosts block offset heap good, tt) $
     sets ! (of_opd ! (get_in ! (fld ! refl (stop !)) (sub ! 0 refl (whole !)))) refl (tt, tt) $
     sets ! (of_opd ! (get_in ! (fld ! refl (stop !)) (sub ! 1 refl (whole !)))) refl good $
     sets ! (agg ! (and_then ! (get ! refl) (and_then ! (get ! refl) (no_more !)))) refl
     (handle_typed (block_ptr block offset) heap good) $
     -- the handle owns what the `RawBox` owned
+    owner_close ! given.alloc (block_ptr block offset) given.value $
     handle_close ! (block_ptr block offset) heap given.alloc held $
     use0 𝓛 (raw (fact 𝓤 (held ≡ held))) (fact_i 𝓤 (held ≡ held) (emp 𝓤) refl) $
     nothing ! $ nothing ! $ fjoin ! $

@@ -30,7 +30,7 @@ use Rattle.std.specs.declared.option.Option.TheVariants.{None, Some}
 use Rattle.std.specs.contracts.impls.GlobalAllocator.TheImpl.{ghosts}
 use Rattle.peg_handle.specs.declared.content.Content.{Content}
 use Rattle.peg_c.proofs.FieldPairs.{field_pair}
-use Rattle.peg_c.proofs.HandleSteps.{ContentRow, HandleRow, Heap, handle_open, handle_typed, heap_rules, null_or_box}
+use Rattle.peg_c.proofs.HandleSteps.{HandleRow, Heap, OwnerRow, handle_open, handle_typed, heap_rules, null_or_box}
 use Rattle.peg_c.proofs.RawBoxSteps.{RawBox, raw_box_close, raw_box_typed}
 use Rattle.peg_c.specs.contracts.handle.Handle.into_raw_box.{clauses, ended}
 use Rattle.peg_c.specs.contracts.handle.Handle.into_raw_box.Key.{name as #self}
@@ -43,7 +43,7 @@ into_raw_box_spec 𝓤 𝓛 𝓜 𝓡 wired =
     let 𝓣 = tables 𝓤 H 𝓜 𝓡 𝓡.env in
     let contract = clauses 𝓛 𝓜.mem 𝓡.returns in
     let body = code.function in
-    let Raw : RattleType = RawBox ContentRow Heap heap_rules ghosts in
+    let Raw : RattleType = RawBox OwnerRow Heap heap_rules ghosts in
     let stays : Stays ended.signature.params ended.kept = (stay_dropped (plain (λ _. HandleRow)) yes, tt) in
     proved_at 𝓛 ended stays contract 𝓜 𝓡 (Goes-blank 𝓛 0 (plain (λ _. HandleRow)) yes (λ κs x f. tt), tt) #self body
     (code.unfolded 𝓤 H 𝓜 𝓡 wired) (λ call are.
@@ -86,7 +86,7 @@ into_raw_box_spec 𝓤 𝓛 𝓜 𝓡 wired =
     (λ block offset value at_block has_content testable.
     let word : Val = field_pair (vptr block offset) heap in
     let passed : call.0.4.0 ≡ word ∷ [] = words ∙ ap (λ (place : Ptr). field_pair (ptr_val place) heap ∷ []) at_block in
-    let typed = raw_box_typed ContentRow Heap heap_rules ghosts block offset heap good in
+    let typed = raw_box_typed OwnerRow Heap heap_rules ghosts block offset heap good in
     let some_word : Val = live 1 (vcons word vnil) in
     let opened : Raw.Denot = record { address = block_ptr block offset; alloc = alloc; value = value } in
     let some_typed : Good (layout Result) some_word = (and_tt _ typed.0, (record { fits = lit< tt }, (typed.1, tt))) in
@@ -105,8 +105,8 @@ into_raw_box_spec 𝓤 𝓛 𝓜 𝓡 wired =
     sets_last ! (agg ! (and_then ! (lit ! tt) (and_then ! (get ! refl) (no_more !)))) refl some_typed $
     exec ! 𝓣.C 𝓣.Λ scope (after 4 body.body) (at_ret scope Post) $
     sets ! (of_opd ! (get ! refl)) refl some_typed $
-    raw_box_close ContentRow Heap heap_rules ghosts ! block offset heap alloc value $
-    let some : Option Content = Some value in
+    raw_box_close OwnerRow Heap heap_rules ghosts ! block offset heap alloc value $
+    let some : Option Content = Some value.value in
     use1 𝓛 (‵ (Result.own_val (Some opened) (some_word ∷ []))) (Some-of 𝓛 Raw opened word) $
     use0 𝓛 (raw (fact 𝓤 (some ≡ given.content))) (fact_i 𝓤 (some ≡ given.content) (emp 𝓤) (sym has_content)) $
     nothing ! $ nothing ! $ fjoin ! $

@@ -28,7 +28,7 @@ returns-in_ok-expected-in-Some-clause-mismatch c file rules of_explainer =
     let style = c.args.self.now.style in
     let outcome = c.in_ok-answer-in-Some.answer.outcome in
     let expected = map fact_of c.in_ok-expected-in-Some.expected.items in
-    let blames : IsBlameParserOf rules c.in-Some.blames = subst (IsBlameOf rules) c.in-Some.is of_explainer.blames in
+    let blames : IsBlameParserOf rules c.in-Some.blames = subst (IsBlameOf rules) (sym c.get.ensures ∙ c.in-Some.is) of_explainer.blames in
     blame-explains rules style text (start_name rules (start_named c.args.options.now)) outcome
     (λ facts parsed. HasMismatch facts text parsed c.mismatch_in.result)
     (c.in_ok-answer-in-Some.ensures.outcome rules blames)
@@ -44,7 +44,7 @@ returns-in_ok-expected-in-None-clause-mismatch c file rules of_explainer =
     let outcome = c.in_ok-answer-in-None.answer.outcome in
     let start = start_named c.args.options.now in
     let same = of_explainer.has_parser in
-    let lacks : HasNoBlameParser rules = subst (IsBlameOf rules) c.in-None.is of_explainer.blames in
+    let lacks : HasNoBlameParser rules = subst (IsBlameOf rules) (sym c.get.ensures ∙ c.in-None.is) of_explainer.blames in
     let spans : map extent c.in_ok-spans-in-None.spans.items ≡ expected_spans (extents_of_terminals rules) outcome =
     c.in_ok-spans-in-None.ensures.spans
     ∙ ap (λ (l : List Rule). expected_spans (extents_of_terminals l) outcome) same in
@@ -71,7 +71,7 @@ can-blame rules blames is =
 
 pub returns-in_err-answer-in-Some-clause-limited : goal.returns-in_err-answer-in-Some-clause-limited
 returns-in_err-answer-in-Some-clause-limited c file rules of_explainer is_limit =
-    let blames : IsBlameParserOf rules c.in-Some.blames = subst (IsBlameOf rules) c.in-Some.is of_explainer.blames in
+    let blames : IsBlameParserOf rules c.in-Some.blames = subst (IsBlameOf rules) (sym c.get.ensures ∙ c.in-Some.is) of_explainer.blames in
     inl (
       can-blame rules c.in-Some.blames blames,
       (c.in_err-answer-in-Some.ensures.limit rules blames).limited (search by_rules),
@@ -79,7 +79,7 @@ returns-in_err-answer-in-Some-clause-limited c file rules of_explainer is_limit 
 
 pub returns-in_err-expected-in-Some-clause-limited : goal.returns-in_err-expected-in-Some-clause-limited
 returns-in_err-expected-in-Some-clause-limited c file rules of_explainer is_limit =
-    let blames : IsBlameParserOf rules c.in-Some.blames = subst (IsBlameOf rules) c.in-Some.is of_explainer.blames in
+    let blames : IsBlameParserOf rules c.in-Some.blames = subst (IsBlameOf rules) (sym c.get.ensures ∙ c.in-Some.is) of_explainer.blames in
     inl (
       can-blame rules c.in-Some.blames blames,
       c.in_err-expected-in-Some.ensures.limited rules blames of_explainer.has_parser (search by_rules),
@@ -87,12 +87,12 @@ returns-in_err-expected-in-Some-clause-limited c file rules of_explainer is_limi
 
 pub returns-in_ok-expected-in-Some-clause-enough : goal.returns-in_ok-expected-in-Some-clause-enough
 returns-in_ok-expected-in-Some-clause-enough c file rules of_explainer no_memo =
-    let blames : IsBlameParserOf rules c.in-Some.blames = subst (IsBlameOf rules) c.in-Some.is of_explainer.blames in
+    let blames : IsBlameParserOf rules c.in-Some.blames = subst (IsBlameOf rules) (sym c.get.ensures ∙ c.in-Some.is) of_explainer.blames in
     inl (can-blame rules c.in-Some.blames blames, (c.in_ok-answer-in-Some.ensures.limit rules blames).enough no_memo)
 
 pub returns-in_err-answer-in-None-clause-limited : goal.returns-in_err-answer-in-None-clause-limited
 returns-in_err-answer-in-None-clause-limited c file rules of_explainer is_limit =
-    let lacks : HasNoBlameParser rules = subst (IsBlameOf rules) c.in-None.is of_explainer.blames in
+    let lacks : HasNoBlameParser rules = subst (IsBlameOf rules) (sym c.get.ensures ∙ c.in-None.is) of_explainer.blames in
     let more = c.in_err-answer-in-None.ensures.parse.limit.limited in
     inr (
       lacks,
@@ -102,7 +102,7 @@ returns-in_err-answer-in-None-clause-limited c file rules of_explainer is_limit 
 
 pub returns-in_ok-expected-in-None-clause-enough : goal.returns-in_ok-expected-in-None-clause-enough
 returns-in_ok-expected-in-None-clause-enough c file rules of_explainer no_memo =
-    let lacks : HasNoBlameParser rules = subst (IsBlameOf rules) c.in-None.is of_explainer.blames in
+    let lacks : HasNoBlameParser rules = subst (IsBlameOf rules) (sym c.get.ensures ∙ c.in-None.is) of_explainer.blames in
     inr (
       lacks,
       λ more. c.in_ok-answer-in-None.ensures.parse.limit.enough no_memo
@@ -112,7 +112,7 @@ returns-in_ok-expected-in-None-clause-enough c file rules of_explainer no_memo =
 
 pub returns-in_ok-expected-in-Some-clause-within : goal.returns-in_ok-expected-in-Some-clause-within
 returns-in_ok-expected-in-Some-clause-within c file rules of_explainer =
-    let blames : IsBlameParserOf rules c.in-Some.blames = subst (IsBlameOf rules) c.in-Some.is of_explainer.blames in
+    let blames : IsBlameParserOf rules c.in-Some.blames = subst (IsBlameOf rules) (sym c.get.ensures ∙ c.in-Some.is) of_explainer.blames in
     let answer = c.in_ok-answer-in-Some.answer in
     let answered = c.in_ok-answer-in-Some.ensures in
     inl (
@@ -132,7 +132,7 @@ returns-in_ok-expected-in-None-clause-within c file rules of_explainer =
     let steps = c.args.options.now.steps in
     let answer = c.in_ok-answer-in-None.answer in
     let parse = c.in_ok-answer-in-None.ensures.parse in
-    let lacks : HasNoBlameParser rules = subst (IsBlameOf rules) c.in-None.is of_explainer.blames in
+    let lacks : HasNoBlameParser rules = subst (IsBlameOf rules) (sym c.get.ensures ∙ c.in-None.is) of_explainer.blames in
     inr (
       lacks,
       (
