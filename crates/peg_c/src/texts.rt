@@ -39,10 +39,10 @@ pub extern "C" fn peg_locate(text: &[u8], at: usize, out: &mut Location) -> u32
     DONE
 }
 
-/// Returns the number of the binary interface.
+/// Returns the number of the binary interface, which is `PEG_ABI` of the header.
 #[unsafe(no_mangle)]
 pub extern "C" fn peg_abi() -> u32
-    ensures { result ≡ ABI }
+    ensures { result ≡ 1 }
 {
     ABI
 }

@@ -12,6 +12,7 @@ use Rattle.peg_semantics.specs.Record.{Recognition, Record}
 use Rattle.peg_semantics.specs.Record as recognition
 use Rattle.peg_semantics.specs.Rules.{Rule}
 use Rattle.peg_tree.specs.Selected.{has_rule}
+use Rattle.peg_coverage.specs.Steps.{IsWithinSteps}
 use Rattle.peg_coverage.specs.declared.text_match.RequiredMatch.{RequiredMatch}
 use Rattle.peg_coverage.specs.declared.text_match.RequiredMatch.TheVariants as required
 use Rattle.peg_coverage.specs.declared.text_match.TextMatch.{TextMatch}
@@ -70,12 +71,14 @@ pub record ParsedText : Type 0 where
   pub outcome : TextOutcome
 
 -- How the parse of a text may end. With a result: it is that of the text from a start by Ford's relation for the
--- grammar as written, and so are the attempts. Stopped: the parse by the marked grammar takes more steps than the limit
--- allows. Without a memo each parse that does is stopped.
+-- grammar as written, and so are the attempts. The parse by the marked grammar stayed within the limit of steps, with a
+-- memo, too. Stopped: the parse by the marked grammar takes more steps than the limit allows. Without a memo each parse
+-- that does is stopped.
 abbrev pub IsOutcomeOf : List Rule → (start : List ℕ) → ParseSettings → (text : List ℕ) → TextOutcome → Type 0
 IsOutcomeOf rules start settings text (Ended found attempts) =
     ((r : Record) × AreAttempts rules text start r attempts × (found ≡ match_of (length text) r.result))
     × (settings.memo ≡ 0 → ¬ TakesMoreSteps (marked_rules rules) text settings.start settings.steps)
+    × IsWithinSteps (marked_rules rules) text start settings.steps
 IsOutcomeOf rules start settings text Stopped =
     TakesMoreSteps (marked_rules rules) text settings.start settings.steps
 

@@ -17,6 +17,7 @@ use Rattle.peg_coverage.specs.Covered.{Ended, HasCovered, HaveCovered, IsOutcome
 use Rattle.peg_coverage.specs.Covered.{Stopped, TextOutcome}
 use Rattle.peg_coverage.specs.Covered.{AreParsed, IsAttemptIn, has_noted, is_enough, is_made, is_match, is_stopped, makes}
 use Rattle.peg_coverage.specs.Covered.{stopped_numbers}
+use Rattle.peg_coverage.specs.Steps.{IsWithinSteps}
 use Rattle.peg_coverage.specs.Unused.{unused_alternatives, unused_rules}
 use Rattle.peg_coverage.specs.declared.text_match.RequiredMatch.{RequiredMatch}
 use Rattle.peg_coverage.specs.declared.text_match.TextMatch.{TextMatch}
@@ -88,29 +89,30 @@ pub text-covered : (rules : List Rule) (start : List ℕ) (settings : ParseSetti
     → IfOk covered (HasCovered rules text start before after) → OnErr covered (after ≡ before)
     → (covered ≡ Err parse.StepLimit → TakesMoreSteps (marked_rules rules) text settings.start settings.steps)
     → (settings.memo ≡ 0 → OnOk covered (¬ TakesMoreSteps (marked_rules rules) text settings.start settings.steps))
+    → OnOk covered (IsWithinSteps (marked_rules rules) text start settings.steps)
     → IfOk (end_of_parse needed covered) (HasCoveredText rules start settings needed known before after)
-text-covered rules start settings needed known text before after (Ok found) read long covered same limited enough =
+text-covered rules start settings needed known text before after (Ok found) read long covered same limited enough within =
     let outcome = Ended found covered.1 in (
       record { text = known; outcome = outcome },
       refl,
       of-known known text (λ bytes. IsOutcomeOf rules start settings bytes outcome)
-          (whole-text known text (Ok found) read long (λ bad. cc)) ((covered.0, covered.2, covered.3), enough),
+          (whole-text known text (Ok found) read long (λ bad. cc)) ((covered.0, covered.2, covered.3), enough, within),
       refl,
       covered.4,
     )
-text-covered rules start settings needed known text before after (Err parse.NoSuchStart) read long covered same limited enough =
+text-covered rules start settings needed known text before after (Err parse.NoSuchStart) read long covered same limited enough within =
     tt
-text-covered rules start settings needed known text before after (Err parse.TextTooLong) read long covered same limited enough =
+text-covered rules start settings needed known text before after (Err parse.TextTooLong) read long covered same limited enough within =
     tt
-text-covered rules start settings needed known text before after (Err parse.StepLimit) read long covered same limited enough = (
+text-covered rules start settings needed known text before after (Err parse.StepLimit) read long covered same limited enough within = (
   record { text = known; outcome = Stopped },
   refl,
   of-known known text (λ bytes. IsOutcomeOf rules start settings bytes Stopped)
       (whole-text known text (Err parse.StepLimit) read long (λ bad. cc)) (limited refl),
   refl,
-  λ attempt within. ap (λ (set : List Bool). has_noted rules set attempt) same,
+  λ attempt inside. ap (λ (set : List Bool). has_noted rules set attempt) same,
 )
-text-covered rules start settings needed known text before after (Err parse.Memory) read long covered same limited enough = tt
+text-covered rules start settings needed known text before after (Err parse.Memory) read long covered same limited enough within = tt
 
 -- a text whose parse doesn't refuse it is there, and isn't too long
 pub text-parsable : (rules : List Rule) (text : List ℕ) (named : Option (List ℕ)) (file : NamedFile)

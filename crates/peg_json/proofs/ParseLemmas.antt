@@ -14,7 +14,7 @@ use Rattle.peg_parser.specs.Cause.{TooDeep, NoSuchStart}
 use Rattle.peg_grammar.specs.Limits.{max_text_bytes}
 use Rattle.peg_semantics.specs.Starts.{Recognizes, start_name}
 use Rattle.peg_tree.specs.Selected.{selected}
-use Rattle.peg_json.specs.Parses.{ParsesTo, PrintsOutcome, HasEnoughSteps, IsDeep, extents_at, selected_outcome, selected_result}
+use Rattle.peg_json.specs.Parses.{AnswersWithin, ParsesTo, PrintsOutcome, IsDeep, extents_at, selected_outcome, selected_result}
 use Rattle.peg_tree.specs.Json.{max_levels}
 use Rattle.peg_json.specs.Parses.{result_reply, no_such_start, failed, too_many_levels, matched}
 use Rattle.peg_json.specs.Reply.{Reply, Refused}
@@ -32,7 +32,7 @@ not_rows false is = refl
 record Parse (rules : List Rule) (text : List ℕ) (start : Option (List ℕ)) (memo : ℕ) (steps : Option ℕ) (r : Record)
     (far : ℕ) (expected : List ℕ) : Type 0 where
   within : length text ≤ max_text_bytes
-  enough : HasEnoughSteps rules text start memo steps
+  enough : AnswersWithin rules text start memo steps
   from : List ℕ
   starts : start_name rules start ≡ Some from
   recognized : Recognizes rules text from r
@@ -67,7 +67,7 @@ result-parses rules text start memo steps all form shown r far expected (parsed.
 
 pub prints-parses : (rules : List Rule) (text : List ℕ) (start : Option (List ℕ)) (memo : ℕ) (steps : Option ℕ)
     (all : Bool) (form : TreeForm) (shown : ℕ → Bool) (outcome : Outcome)
-    → length text ≤ max_text_bytes → HasEnoughSteps rules text start memo steps → (from : List ℕ)
+    → length text ≤ max_text_bytes → AnswersWithin rules text start memo steps → (from : List ℕ)
     → start_name rules start ≡ Some from
     → IsParseOutcome rules text from outcome → (reply : Reply)
     → PrintsOutcome rules (selected_outcome shown outcome) (length text) all form reply
@@ -117,7 +117,7 @@ missing-parses rules text start memo steps all form shown name within named none
 
 pub outcome-parses : (rules : List Rule) (text : List ℕ) (start : Option (List ℕ)) (memo : ℕ) (steps : Option ℕ)
     (all : Bool) (form : TreeForm) (shown : ℕ → Bool) (outcome : Outcome)
-    → length text ≤ max_text_bytes → HasEnoughSteps rules text start memo steps → (start_name rules start ≡ None → ⊥)
+    → length text ≤ max_text_bytes → AnswersWithin rules text start memo steps → (start_name rules start ≡ None → ⊥)
     → IfSome (start_name rules start) (λ from. IsParseOutcome rules text from outcome) → (reply : Reply)
     → PrintsOutcome rules (selected_outcome shown outcome) (length text) all form reply
     → ParsesTo rules text start memo steps all form shown reply

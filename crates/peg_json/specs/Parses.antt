@@ -1,7 +1,8 @@
 -- The reply to a parse of a text by an accepted grammar (Ford 2004, section 3.3).
-use Rattle.std.specs.Prelude.{◌≡◌, ◌⊎◌, ℕ, ◌<◌, ◌≤◌, Bool, false}
+use Rattle.std.specs.Prelude.{◌≡◌, ◌⊎◌, ℕ, ◌<◌, ◌≤◌, Bool, false, IfSome}
 use Rattle.std.specs.Prelude.{◌&&◌, nat_lt, List, length, map, slice_index_or, Option, Some}
 use Rattle.peg_bytes.specs.Extent.{Extent, between}
+use Rattle.peg_coverage.specs.Steps.{IsWithinSteps}
 use Rattle.peg_semantics.specs.Furthest.{IsFurthest}
 use Rattle.peg_semantics.specs.Record.{Record}
 use Rattle.peg_semantics.specs.Record as recognition
@@ -31,11 +32,19 @@ extents_at rules terminals = map (λ terminal. slice_index_or (extents_of_termin
 abbrev pub HasEnoughSteps : List Rule → List ℕ → (start : Option (List ℕ)) → (memo : ℕ) → (steps : Option ℕ) → Type 0
 HasEnoughSteps rules text start memo steps = memo ≡ 0 → ¬ TakesMoreSteps rules text start steps
 
+-- A parse has an answer within the step limit, with a memo, too. Its steps are those of a list of calls, which as a set
+-- are those of Ford's record.
+pub record AnswersWithin (rules : List Rule) (text : List ℕ) (start : Option (List ℕ)) (memo : ℕ) (steps : Option ℕ)
+    : Type 0 where
+  pub enough : HasEnoughSteps rules text start memo steps
+  pub within : IfSome (start_name rules start) (λ from. IsWithinSteps rules text from steps)
+
 -- The reply to a parse of a text from a start, with a memo of this capacity and an optional step limit. `all` asks for
 -- a match of the whole text, and `form` is that of the printed tree, which has the root and the nodes of the rules that
 -- are shown. A text that is too long is reported before a start that no rule has.
 --
--- If the parse exceeds the step limit, that is reported; with a memo, the result of the parse may be reported too.
+-- If the parse exceeds the step limit, that is reported. With a memo the result may be reported, too, if a parse with a
+-- memo stays within the limit.
 pub data ParsesTo (rules : List Rule) (text : List ℕ) (start : Option (List ℕ)) (memo : ℕ) (steps : Option ℕ)
     (all : Bool) (form : TreeForm) (shown : ℕ → Bool) : Reply → Type 0 where
   text_too_long : max_text_bytes < length text
@@ -45,16 +54,16 @@ pub data ParsesTo (rules : List Rule) (text : List ℕ) (start : Option (List �
   too_many_steps : length text ≤ max_text_bytes → TakesMoreSteps rules text start steps
       → ParsesTo rules text start memo steps all form shown (Refused StepLimit)
   failed : {from : List ℕ} {r : Record} {far : ℕ} {terminals : List ℕ} → length text ≤ max_text_bytes
-      → HasEnoughSteps rules text start memo steps → start_name rules start ≡ Some from
+      → AnswersWithin rules text start memo steps → start_name rules start ≡ Some from
       → Recognizes rules text from r → r.result ≡ recognition.Failed → IsFurthest r.tests far terminals
       → ParsesTo rules text start memo steps all form shown (Failed far (extents_at rules terminals))
   too_many_levels : {from : List ℕ} {r : Record} {end : ℕ} {tree : Trees} → length text ≤ max_text_bytes
-      → HasEnoughSteps rules text start memo steps → start_name rules start ≡ Some from
+      → AnswersWithin rules text start memo steps → start_name rules start ≡ Some from
       → Recognizes rules text from r → r.result ≡ recognition.Matched end tree
       → form ≡ Nested → max_levels < levels (selected shown tree)
       → ParsesTo rules text start memo steps all form shown (Refused TooDeep)
   matched : {from : List ℕ} {r : Record} {end far : ℕ} {terminals : List ℕ} {tree : Trees}
-      → length text ≤ max_text_bytes → HasEnoughSteps rules text start memo steps
+      → length text ≤ max_text_bytes → AnswersWithin rules text start memo steps
       → start_name rules start ≡ Some from → Recognizes rules text from r
       → r.result ≡ recognition.Matched end tree → (form ≡ Nested → levels (selected shown tree) ≤ max_levels)
       → IsFurthest r.tests far terminals

@@ -28,8 +28,8 @@ AreSteps rules text start memo steps =
 -- those of the bodies of the listed calls, and one more for a match. A text that is too long is reported before a start
 -- that no rule has.
 --
--- A parse that takes more steps than the limit is stopped there. Its profiles are of calls of the record, and without a
--- memo of the first ones, in order.
+-- The steps stay within the limit, with a memo, too. A parse that takes more steps than the limit is stopped there. Its
+-- profiles are of calls of the record, and without a memo of the first ones, in order.
 pub data ProfilesTo (rules : List Rule) (text : List ℕ) (start : Option (List ℕ)) (memo : ℕ) (steps : Option ℕ)
     : Reply → Type 0 where
   text_over_limit : max_text_bytes < length text → ProfilesTo rules text start memo steps (Refused TextTooLong)
@@ -42,7 +42,8 @@ pub data ProfilesTo (rules : List Rule) (text : List ℕ) (start : Option (List 
       → ProfilesTo rules text start memo steps (Profiled Stopped limit (names rules) profiles)
   has_profile : {from : List ℕ} {r : Record} {taken : ℕ} {calls : List RuleCall} {profiles : List RuleProfile}
       → length text ≤ max_text_bytes → HasEnoughSteps rules text start memo steps → start_name rules start ≡ Some from
-      → Recognizes rules text from r → AreSteps rules text start memo taken → AreCallsOf rules text from calls
+      → Recognizes rules text from r → AreSteps rules text start memo taken
+      → ((limit : ℕ) → steps ≡ Some limit → taken ≤ limit) → AreCallsOf rules text from calls
       → (memo ≡ 0 → AreCallsInOrder rules text from calls)
       → (memo ≢ 0 → AreStepsOf rules text calls (parsed_of r.result) taken)
       → AreProfilesOf (length rules) calls profiles

@@ -1,10 +1,12 @@
 -- Lines of parses without an answer.
-use Rattle.std.proofs.Common.{◌≡◌, ◌↔◌, ℕ, ◌<◌, ◌≤◌, Bool, inl, inr, List, length, Option, None, Some, Result, Err, IfOk, option_map, unwrap_or}
+use Rattle.std.proofs.Common.{◌≡◌, ◌↔◌, ℕ, ◌<◌, ◌≤◌, Bool, inl, inr, List, length, Option, None, Some, Result, Err, IfOk, IfSome, option_map, unwrap_or}
 use Rattle.std.proofs.Common.{refl, sym, ◌∙◌}
 use Rattle.std.proofs.lemmas.Bool.{cases_lt}
 use Rattle.std.specs.declared.alloc.AllocError.{AllocError}
 use Rattle.peg_semantics.specs.Rules.{Rule}
 use Rattle.peg_grammar.specs.Limits.{max_text_bytes}
+use Rattle.peg_coverage.specs.Steps.{IsWithinSteps}
+use Rattle.peg_parser.specs.Calls.{IsSumOfSteps}
 use Rattle.peg_parser.specs.Cause.{NoSuchStart, TextTooLong}
 use Rattle.peg_semantics.specs.Starts.{start_name}
 use Rattle.peg_machine.specs.declared.answer.Answer.{Answer}
@@ -71,3 +73,11 @@ short-text result size is long = elim (cases_lt max_text_bytes size) [
   | inl over ↦ absurd (let bad : Err fault.StepLimit ≡ Err fault.TextTooLong = sym is ∙ long.1 over in cc)
   | inr within ↦ within
 ]
+
+-- the steps of an answer, where the parse has a start
+pub within-steps : (found : Option (List ℕ)) (rules : List Rule) (text : List ℕ) (max_steps : Option ℕ) (answer : Answer)
+    → IfSome found (λ from. IsSumOfSteps rules text from answer)
+    → ((limit : ℕ) → max_steps ≡ Some limit → answer.steps ≤ limit)
+    → IfSome found (λ from. IsWithinSteps rules text from max_steps)
+within-steps None rules text max_steps answer sum allowed = tt
+within-steps (Some from) rules text max_steps answer sum allowed = (answer, sum, allowed)

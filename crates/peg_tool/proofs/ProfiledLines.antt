@@ -56,13 +56,14 @@ pub profile-replies : (set : Option (List Bool)) (rules : List Rule) (text : Lis
     → (memo ≡ 0 → IfSome profile.answer (λ answer. (count : ℕ) × TakesPlainSteps rules text start count
     × (profile.steps ≡ saturated count)))
     → (count : ℕ) × TakesPlainSteps rules text start count × (profile.steps ≤ count)
+    → ((limit : ℕ) → steps ≡ Some limit → profile.steps ≤ limit)
     → IfNone profile.answer (IfSome (start_name rules start)
     (λ from. AreProfilesSoFar rules text from memo steps profile.rules.items))
     → IfNone profile.answer (TakesMoreSteps rules text start steps)
     → IfNone profile.answer (steps ≡ Some profile.steps)
     → ProfilesTo rules text start memo steps
     (Profiled (end_of profile.answer) profile.steps (names rules) profile.rules.items)
-profile-replies set rules text start memo steps profile within some is called enough exact taken stopped more limit =
+profile-replies set rules text start memo steps profile within some is called enough exact taken allowed stopped more limit =
     by profile.answer (start_name rules start) refl some is called enough exact stopped more limit
   where
     by : (answer : Option Answer) (found : Option (List ℕ)) → start_name rules start ≡ found → (found ≡ None → ⊥)
@@ -83,7 +84,7 @@ profile-replies set rules text start memo steps profile within some is called en
         ∙ same-end set r.result profile.steps (names rules) profile.rules.items in
         let own = ap end_of_run is.1.2 ∙ same-own set r.result in
         subst (λ (reply : Reply). ProfilesTo rules text start memo steps reply) (sym ended)
-        (has_profile within enough there (is.0, is.1.1) (taken, exact) called.1 called.2
+        (has_profile within enough there (is.0, is.1.1) (taken, exact) allowed called.1 called.2
         (λ some. let steps = called.3 some in (
           steps.0,
           steps.1,

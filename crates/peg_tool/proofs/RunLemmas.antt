@@ -81,7 +81,7 @@ ProfilesTo-longer rules text more start memo steps reply long longer
     (steps_over_limit within starts limited more_steps calls first profiles) =
     absurd (omega (arith, long, within))
 ProfilesTo-longer rules text more start memo steps reply long longer
-    (has_profile within enough starts found taken calls ordered own profiles) =
+    (has_profile within enough starts found taken allowed calls ordered own profiles) =
     absurd (omega (arith, long, within))
 
 -- the same for any task

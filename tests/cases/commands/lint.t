@@ -25,6 +25,17 @@ Rules that the start doesn't call are unused, and there is a warning for each.
   {"warnings":[{"column":1,"end":1,"kind":"UnusedRule","line":1,"proved":true,"rule":"S","start":0},{"column":1,"end":9,"kind":"UnusedRule","line":2,"proved":true,"rule":"T","start":8}]}
   [1]
 
+The start changes which rules are unused, and no other warning. The longer literal is after its prefix, nothing is left
+after the star of dots, and the last alternative is there twice.
+
+  $ printf "S <- 'a' / 'ab'\nT <- .* 'x' / S / S\n" > start.peg
+  $ pegtool lint start.peg
+  {"warnings":[{"by":[5,8],"column":12,"end":15,"kind":"Shadowed","line":1,"proved":true,"rule":"S","start":11},{"column":1,"end":17,"kind":"UnusedRule","line":2,"proved":true,"rule":"T","start":16},{"by":[21,23],"column":9,"end":27,"kind":"NeverStops","line":2,"proved":true,"rule":"T","start":24},{"by":[30,31],"column":19,"end":35,"kind":"SameAlternative","line":2,"proved":true,"rule":"T","start":34}]}
+  [1]
+  $ pegtool lint start.peg --start T
+  {"warnings":[{"by":[5,8],"column":12,"end":15,"kind":"Shadowed","line":1,"proved":true,"rule":"S","start":11},{"by":[21,23],"column":9,"end":27,"kind":"NeverStops","line":2,"proved":true,"rule":"T","start":24},{"by":[30,31],"column":19,"end":35,"kind":"SameAlternative","line":2,"proved":true,"rule":"T","start":34}]}
+  [1]
+
 The first byte of a range must not be greater than its last, or it holds no byte.
 
   $ echo "Digit <- [9-0]" | pegtool lint /dev/stdin

@@ -55,3 +55,9 @@ These expressions match some text: the recursion ends with b, and the others mat
   {"warnings":[]}
   $ printf "S <- !'a' ." | pegtool lint /dev/stdin
   {"warnings":[]}
+
+Ford's abstract outcomes (2004, section 3.5) don't say on which bytes a part fails. So docs/LINT.md doesn't promise the
+warning that this sequence never matches.
+
+  $ printf "S <- !'a' 'a'" | pegtool lint /dev/stdin
+  {"warnings":[]}

@@ -56,3 +56,9 @@ The star of `'ab'` ends before a byte a that no b follows.
 
   $ printf "S <- 'ab'* 'a'" | pegtool lint /dev/stdin
   {"warnings":[]}
+
+What docs/LINT.md says that isn't found: an item after a repetition over more than a literal, a class or a dot. The star
+takes each a, so that none is left for the literal.
+
+  $ printf "S <- ('a' / 'b')* 'a'" | pegtool lint /dev/stdin
+  {"warnings":[]}

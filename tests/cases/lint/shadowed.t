@@ -64,3 +64,34 @@ The empty class after a dot has no warning, since it fails on purpose.
 
   $ printf 'S <- . / []' | pegtool lint /dev/stdin
   {"warnings":[]}
+
+What docs/LINT.md says that isn't found. A rule, a repetition and a sequence shadow the second alternative here: each of
+them fails only where the text begins with another character.
+
+  $ printf "S <- L / '<='\nL <- '<'" | pegtool lint /dev/stdin
+  {"warnings":[]}
+  $ printf "S <- 'a'+ / 'ab'" | pegtool lint /dev/stdin
+  {"warnings":[]}
+  $ printf "S <- 'a' 'b'? / 'ac'" | pegtool lint /dev/stdin
+  {"warnings":[]}
+
+An alternative is compared with the 32 before it. The first number of two digits is 11, so x is the 32nd before the last
+alternative and then the 33rd.
+
+  $ for last in 41 42; do
+  >   { printf "S <- 'x'"; printf " / '%d'" $(seq 11 $last); printf " / 'xy'"; } | pegtool lint /dev/stdin |
+  >     grep -c '"kind":"Shadowed"'
+  > done
+  1
+  0
+  [1]
+
+The later alternative is followed for seven steps, each to the expression of a rule.
+
+  $ for n in 7 8; do
+  >   { printf "S <- 'x' / R1\n"; for k in $(seq $((n - 1))); do printf 'R%d <- R%d\n' $k $((k + 1)); done
+  >     printf "R%d <- 'xy'\n" $n; } | pegtool lint /dev/stdin | grep -c '"kind":"Shadowed"'
+  > done
+  1
+  0
+  [1]

@@ -2,7 +2,7 @@ use Rattle.std.proofs.Common.{All, IsTrue, subst, sym}
 use Rattle.peg_semantics.specs.Rules.{names}
 use Rattle.peg_grammar.specs.GrammarRules.{rules_in}
 use Rattle.peg_lint.specs.FileWarnings.{FindsAll, IsTrueWarningIn, is_selected}
-use Rattle.peg_lint.specs.Warnings.{IsInWrittenOrder}
+use Rattle.peg_lint.specs.Warnings.{AreDistinct, IsInWrittenOrder}
 use Rattle.peg_json.specs.Lints.{LintsTo, warned}
 use Rattle.peg_json.specs.Reply.{Linted}
 use Rattle.peg_json.proofs.PrintLemmas.{reply-kind}
@@ -25,4 +25,5 @@ returns c start is =
     c.in_ok-found.ensures.selected)
     (subst (FindsAll c.args.file.now rules c.args.rule c.args.selection) (sym c.deref.ensures.value)
     c.in_ok-found.ensures.all)
-    (subst IsInWrittenOrder (sym c.deref.ensures.value) c.in_ok-found.ensures.in_order))
+    (subst IsInWrittenOrder (sym c.deref.ensures.value) c.in_ok-found.ensures.in_order)
+    (subst AreDistinct (sym c.deref.ensures.value) c.in_ok-found.ensures.distinct))

@@ -17,7 +17,7 @@ use Rattle.peg_json.proofs.ParseLemmas.{outcome-parses, start-given}
 use Rattle.peg_json.proofs.PrintLemmas.{kind-weaker, refused-with_text, reply-kind}
 use Rattle.peg_tool.specs.Commands.{nodes_asked}
 use Rattle.peg_tool.specs.PrintedNodes.{shown_by}
-use Rattle.peg_tool.proofs.ParsedLines.{given-name, no_start-line, long-text, short-text}
+use Rattle.peg_tool.proofs.ParsedLines.{given-name, no_start-line, long-text, short-text, within-steps}
 use Rattle.peg_tool.proofs.SelectedAnswers.{found-selected, lines-agree}
 use Rattle.peg_tool.proofs.parse.shown_line.Goals as goal
 
@@ -47,7 +47,12 @@ returns-in-Ok c file =
     (outcome-fits c.a_selected_tree_has_no_other_rules.ensures None rules c.args.text.now selection.0.0 whole
     selection.1.is).tree line in
     let parses = outcome-parses rules c.args.text.now start memo steps printing.all printing.form shown whole
-    c.in-Ok.ensures.parse.short c.in-Ok.ensures.parse.limit.enough some
+    c.in-Ok.ensures.parse.short
+    record {
+      enough = c.in-Ok.ensures.parse.limit.enough;
+      within = within-steps (start_name rules start) rules c.args.text.now steps c.in-Ok.answer c.in-Ok.ensures.parse.steps.own
+          c.in-Ok.ensures.parse.steps.allowed;
+    } some
     (subst (λ (found : Option (List ℕ)). IfSome found (λ from. IsParseOutcome rules c.args.text.now from whole))
     (sym selection.0.1) selection.1.is) in
     kind-weaker c.tree_line.result file

@@ -30,7 +30,7 @@ returns-in-Ok c file =
     (subst (λ (l : List Rule). IfOk c.profile_line.result (λ line.
     IsReply file (reply_of l) (line_bytes line) (status_code line.status))) c.grammar.ensures (c.profile_line.ensures file))
     (profile-replies (rules_shown c.args.parser.now) rules c.args.text.now start memo steps profile c.in-Ok.ensures.short some c.in-Ok.ensures.outcome
-    c.in-Ok.ensures.rules c.in-Ok.ensures.enough c.in-Ok.ensures.exact c.in-Ok.ensures.steps c.in-Ok.ensures.stopped
+    c.in-Ok.ensures.rules c.in-Ok.ensures.enough c.in-Ok.ensures.exact c.in-Ok.ensures.steps c.in-Ok.ensures.allowed c.in-Ok.ensures.stopped
     c.in-Ok.ensures.limited c.in-Ok.ensures.limit)
 
 pub returns-in-Err-NoSuchStart : goal.returns-in-Err-NoSuchStart
