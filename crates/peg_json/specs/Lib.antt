@@ -34,6 +34,7 @@ pub mod Lints
 pub mod Parses
 pub mod ProfileReplies
 pub mod ProfileText
+pub mod RecordLines
 pub mod Reply
 pub mod RowsHead
 pub mod Sending

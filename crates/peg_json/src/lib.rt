@@ -13,6 +13,7 @@ mod lines;
 mod profile_end;
 mod profile_lines;
 mod profile_text;
+mod record_lines;
 mod refusal_text;
 mod row_lines;
 mod status;
@@ -31,6 +32,7 @@ pub use lines::{
 pub use peg_listings::{code_json, lint_json, table_json};
 pub use profile_lines::profile_line;
 pub use profile_text::profile_json;
+pub use record_lines::push_record_line;
 pub use refusal_text::refusal_json;
 pub use status::Status;
 pub use text_lines::answer_line_with_text;

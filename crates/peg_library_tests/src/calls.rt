@@ -1,5 +1,5 @@
 //! Calls that no run of the program makes. `tests/oom/each_test.py` makes each of their allocations fail.
-use peg_json::{answer_json, long_text_line, no_coverage_line};
+use peg_json::{answer_json, long_text_line, no_coverage_line, push_record_line, step_limit_line};
 use peg_parser::{ParseOptions, Parser, read_by_figure};
 use std::alloc::Global;
 use std::test::Fail;
@@ -40,5 +40,18 @@ fn refusals_for_limits_are_printed(rt: HostRuntime) -> Result<(), Fail> {
     let alloc = rt.alloc();
     assert_eq!(rt; long_text_line(alloc)?.status.code(), 6);
     assert_eq!(rt; no_coverage_line(alloc)?.status.code(), 6);
+    Ok(())
+}
+
+// The line of a record is that of its reply, with its number as the first member.
+#[test]
+fn the_line_of_a_record_has_its_number(rt: HostRuntime) -> Result<(), Fail> {
+    let alloc = rt.alloc();
+    let mut lines = Vec::new(alloc);
+    push_record_line(&mut lines, 1, long_text_line(alloc)?)?;
+    push_record_line(&mut lines, 20, step_limit_line(alloc)?)?;
+    let wanted =
+        b"{\"record\":1,\"refusal\":\"TextTooLong\"}\n{\"record\":20,\"refusal\":\"StepLimit\"}\n";
+    assert_eq!(rt; lines.as_slice(), wanted.as_slice());
     Ok(())
 }

@@ -1,0 +1,3 @@
+mod AheadLemmas
+mod ReaderLemmas
+mod RecordLemmas
