@@ -61,7 +61,11 @@ fn items_of_no_grammar_are_written(rt: HostRuntime) -> Result<(), Fail> {
             &[plain],
             b"t:1:1: expected something other than !'x', found 'z'\nz\n^\n",
         ),
-        (b"!", &[plain], b"t:1:1: expected something other than , found 'z'\nz\n^\n"),
+        (
+            b"!",
+            &[plain],
+            b"t:1:1: expected something other than , found 'z'\nz\n^\n",
+        ),
         (b"", &[plain], b"t:1:1: expected , found 'z'\nz\n^\n"),
         (
             b"'a'",
