@@ -1,6 +1,7 @@
 //! A reader of the records of a stream.
 ghost use Rattle.std.specs.Prelude.{◌≡◌, ℕ, ◌<◌, ◌≤◌, false, true, IfOk, IfSome, IsErrOf, List, OnOk, Some, [], length, vec_len};
 ghost use Rattle.std.specs.Prelude.{◌↔◌, ◌+◌, slice_range};
+ghost use Rattle.std.specs.List.{copy_within};
 ghost use Rattle.peg_records.specs.Records.{record_of, records};
 
 use crate::end::RecordEnd;
@@ -172,9 +173,20 @@ impl RecordReader {
         self.from = 0;
         self.to = 0;
         let len = self.held.len() - self.start;
-        self.held.copy_within(self.start.., 0);
+        move_to_front(&mut self.held, self.start);
         self.held.truncate(len.min(self.limit + 2));
         self.start = 0;
         self.searched = self.held.len();
+    }
+}
+
+// Moves the bytes from an offset on to the front. Constant time if they are there, as those of a record of many blocks.
+fn move_to_front(bytes: &mut Vec<u8>, from: usize)
+    requires { from ≤ vec_len bytes.old }
+    ensures items { bytes.new.items ≡ copy_within bytes.old.items from (vec_len bytes.old) 0 }
+    ensures len { vec_len bytes.new ≡ vec_len bytes.old }
+{
+    if from > 0 {
+        bytes.copy_within(from.., 0);
     }
 }

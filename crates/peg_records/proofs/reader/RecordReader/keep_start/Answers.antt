@@ -15,4 +15,4 @@ returns-clause-ahead c left ahead before =
     let count : c.min.result ≡ min (vec_len old.held - old.start) (old.limit + 2) = grind (arith, common_steps) in
     reader-kept old.end old.limit xs moved old.start old.searched (vec_len old.held) c.min.result c.len-self.result left
     ahead old.in_order within c.requires len count
-    (c.truncate.ensures.items ∙ ap (take c.min.result) c.copy_within.ensures.items) size before
+    (c.truncate.ensures.items ∙ ap (take c.min.result) c.move_to_front.ensures.items) size before
