@@ -105,8 +105,8 @@ class Parses(unittest.TestCase):
         self.assertEqual(match.steps, 15)
 
     def test_a_match_has_the_steps_of_the_run_that_found_it(self):
-        # Without a memo n parentheses take 18 * 2**n - 11 steps, and with one 12 * n + 7. The first run has no memo, and
-        # may take 4,096 steps and 64 for each of the 3 * n + 1 bytes: 5,696 for eight, and 5,888 for nine.
+        # Without a memo n parentheses take 18 * 2**n - 11 steps, and with one 12 * n + 7. The first run has no memo,
+        # and may take 4,096 steps and 64 for each of the 3 * n + 1 bytes: 5,696 for eight, and 5,888 for nine.
         grammar = Grammar("A <- '(' A ')' 'x' / '(' A ')' 'y' / 'a'\n")
         self.assertEqual(grammar.parse("(" * 8 + "a" + ")y" * 8).steps, 4597)
         self.assertEqual(grammar.parse("(" * 9 + "a" + ")y" * 9).steps, 115)

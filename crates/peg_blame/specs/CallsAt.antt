@@ -7,8 +7,8 @@ use Rattle.peg_blame.specs.BlameCalls.{is_called}
 use Rattle.peg_blame.specs.Sought.{sought}
 use Rattle.peg_blame.specs.declared.calls_at.CallsAt.{CallsAt}
 
--- A tracer has noted the calls after the first one. The first one says what it looks for. So a tracer that got more calls
--- looks for the same as before.
+-- A tracer has noted the calls after the first one. The first one says what it looks for. So a tracer that got more
+-- calls looks for the same as before.
 pub record HasNoted (noted : CallsAt) (calls : List RuleCall) : Type 0 where
   pub later : List RuleCall
   pub first : calls ≡ sought noted.rules noted.at ∷ later

@@ -14,7 +14,8 @@ abbrev pub Owner : (Content : RattleType) → RattleType
 Owner Content = arc.the_row Content heap.the_row ghosts
 
 -- an owner of this content, in a box at this address
-abbrev pub owner_at : (Content : RattleType) (alloc : Global) (address : Ptr) → Content.Denot → (Owner Content).Denot → Fml
+abbrev pub owner_at : (Content : RattleType) (alloc : Global) (address : Ptr) → Content.Denot
+    → (Owner Content).Denot → Fml
 owner_at Content alloc address content owner =
     fsep (feq Content.Denot owner.value content) (box_owns (ghosts.dealloc_token alloc) (Owner Content) address owner)
 

@@ -39,8 +39,8 @@ pub extern "C" fn peg_grammar_read(alloc: Global, file: &[u8], out: &mut Handle)
     }
 }
 
-/// Makes `out` another handle of the same grammar or refusal. The two handles own it together, and may be used and freed by
-/// different threads. Constant time, but for what `out` held before.
+/// Makes `out` another handle of the same grammar or refusal. The two handles own it together, and may be used and
+/// freed by different threads. Constant time, but for what `out` held before.
 #[unsafe(no_mangle)]
 pub extern "C" fn peg_grammar_share(alloc: Global, grammar: &mut Handle, out: &mut Handle) -> u32
     ensures kept { grammar.new.content ≡ grammar.old.content }

@@ -1,5 +1,6 @@
 //! Tests of what no run of the program shows: tokens and definitions with their spans, definitions that no file has,
-//! the tables of shortcuts, memos, the costs of rules, devices, and records. The expected values were worked out by hand.
+//! the tables of shortcuts, memos, the costs of rules, devices, and records. The expected values were worked out by
+//! hand.
 #![tactic(auto)]
 
 #[cfg(test)]

@@ -36,14 +36,14 @@ impl Failure<'_> {
     /// position and a caret below the position. Each line ends with LF.
     ///
     /// An item is written as in the grammar file. A dot is written `any byte`. The predicate `!e` is written `something
-    /// other than e`, after all others. `!.` is `the end`, like the end of the text if it is expected. The end is written
-    /// first, so that no number of other items hides it. Equal items are written once, and at most eight are written;
-    /// then `N more` counts the others. An item is compared only with the first 64 different ones. Further items are
-    /// counted each.
+    /// other than e`, after all others. `!.` is `the end`, like the end of the text if it is expected. The end is
+    /// written first, so that no number of other items hides it. Equal items are written once, and at most eight are
+    /// written; then `N more` counts the others. An item is compared only with the first 64 different ones. Further
+    /// items are counted each.
     ///
-    /// If literals are expected that begin with the same letter as the text, in either case, the text is shown up to the
-    /// length of the longest one, or up to a blank. Otherwise one character is shown. A character that can't be seen, or
-    /// that looks like one of ASCII, has its name, as in `'\xC2\xA0' (no-break space)`.
+    /// If literals are expected that begin with the same letter as the text, in either case, the text is shown up to
+    /// the length of the longest one, or up to a blank. Otherwise one character is shown. A character that can't be
+    /// seen, or that looks like one of ASCII, has its name, as in `'\xC2\xA0' (no-break space)`.
     ///
     /// Bytes that are neither printable ASCII nor UTF-8 are written as escapes of the notation. At most 120 bytes of
     /// the line are shown, the first of them 80 before the position. A tab of the line stays a tab, and so does the blank

@@ -10,6 +10,7 @@ pub struct ParseOptions<'a> {
     pub start: Option<&'a str>,
     /// The capacity of the memo, in entries; 0 for no memo. It changes no result.
     pub memo: u32,
-    /// The most steps that the parse may take, one for each instruction executed; `None` for no limit.
+    /// The most steps that a run may take, one for each instruction executed; `None` for no limit. With a memo a parse may
+    /// run twice, first without it, so that both runs together may take twice this number.
     pub steps: Option<u64>,
 }

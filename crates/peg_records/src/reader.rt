@@ -14,8 +14,8 @@ const BLOCK_BYTES: usize = 65_536;
 
 /// Reads the records of a stream in blocks. It holds the start of a record that isn't read to its end, and one block.
 ///
-/// A record that is longer than a limit is given in part: as some of its bytes, which are longer than the limit, too. So
-/// a caller that refuses such records needs no more memory for them.
+/// A record that is longer than a limit is given in part: as some of its bytes, which are longer than the limit, too.
+/// So a caller that refuses such records needs no more memory for them.
 ///
 /// # Example
 ///
@@ -80,8 +80,8 @@ impl RecordReader {
         &self.held[self.from..self.to]
     }
 
-    /// Finds the next record in memory, for `record`. Returns `false` if there is none that is read to its end. Linear in
-    /// the bytes that weren't searched before.
+    /// Finds the next record in memory, for `record`. Returns `false` if there is none that is read to its end. Linear
+    /// in the bytes that weren't searched before.
     pub fn next(&mut self) -> bool
         ensures next { (left : List ℕ) (ahead : List (List ℕ)) → IsAheadOf self.old left ahead
             → HasNext result self.new left ahead }
@@ -119,8 +119,8 @@ impl RecordReader {
         self.searched = at + 1;
     }
 
-    /// Finds the last record, which has no end, for `record`. Returns `false` if there is none. The source must be at its
-    /// end, and `next` has found no other record. Then the reader is ready for another stream. Constant time.
+    /// Finds the last record, which has no end, for `record`. Returns `false` if there is none. The source must be at
+    /// its end, and `next` has found no other record. Then the reader is ready for another stream. Constant time.
     pub fn last(&mut self) -> bool
         requires { rest_of self.old ≡ [] }
         ensures last { (ahead : List (List ℕ)) → IsAheadOf self.old [] ahead → EndsWith result self.new ahead }
@@ -137,8 +137,8 @@ impl RecordReader {
     }
 
     /// Reads a block of a byte or more. Returns `false` if the source is at its end. `next` has found all records in
-    /// memory before. Returns `Device` if the read fails, and `Memory` if an allocation fails. Linear in the bytes that are
-    /// held.
+    /// memory before. Returns `Device` if the read fails, and `Memory` if an allocation fails. Linear in the bytes that
+    /// are held.
     pub fn read_block<S: Source>(&mut self, input: &mut S) -> Result<bool, ReadFault>
         requires works { S.failed input.old ≡ false }
         requires nothing { rest_of self.old ≡ [] }

@@ -1,5 +1,5 @@
-//! Runs of a program's code on a text, in terms of records (Ford 2004, section 3.3): what code does in one rule's body, and
-//! what all active calls expect. The crate holds definitions and laws only; nothing in it is executed at run time.
+//! Runs of a program's code on a text, in terms of records (Ford 2004, section 3.3): what code does in one rule's body,
+//! and what all active calls expect. The crate holds definitions and laws only; nothing in it is executed at run time.
 //!
 //! Its definitions, in reading order:
 //!
