@@ -1,4 +1,4 @@
-"""The examples in the package's comments, in docs/PYTHON.md and in README.md."""
+"""The examples in the package's comments, in docs/PYTHON.md, docs/TUTORIAL.md and README.md."""
 
 import doctest
 import os
@@ -11,7 +11,12 @@ import pegtool._text
 import pegtool._visitor
 
 TOP = os.path.abspath(os.path.join(os.path.dirname(__file__), os.pardir, os.pardir))
-GUIDES = [os.path.join(TOP, name) for name in ("README.md", os.path.join("docs", "PYTHON.md"))]
+GUIDES = [os.path.join(TOP, *name) for name in (("README.md",), ("docs", "PYTHON.md"), ("docs", "TUTORIAL.md"))]
+
+
+def at_top(test):
+    """The examples name files from the top of the repository."""
+    os.chdir(TOP)
 
 
 def load_tests(loader, tests, pattern):
@@ -19,7 +24,11 @@ def load_tests(loader, tests, pattern):
         tests.addTests(doctest.DocTestSuite(module, optionflags=doctest.IGNORE_EXCEPTION_DETAIL))
     tests.addTests(
         doctest.DocFileSuite(
-            *GUIDES, module_relative=False, optionflags=doctest.IGNORE_EXCEPTION_DETAIL, encoding="utf-8"
+            *GUIDES,
+            module_relative=False,
+            optionflags=doctest.IGNORE_EXCEPTION_DETAIL,
+            encoding="utf-8",
+            setUp=at_top,
         )
     )
     return tests
