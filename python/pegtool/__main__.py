@@ -7,7 +7,7 @@ from typing import List, Optional
 from ._errors import GrammarError, PegError
 from ._grammar import Grammar
 from ._version import __version__
-from ._view import page
+from ._view import MAX_NODES, page
 
 
 def arguments() -> argparse.ArgumentParser:
@@ -22,7 +22,18 @@ def arguments() -> argparse.ArgumentParser:
     view.add_argument("text", help="the text")
     view.add_argument("-o", "--output", required=True, help="the page to write")
     view.add_argument("--start", help="the name of the start rule; the first rule if not given")
+    shown = view.add_mutually_exclusive_group()
+    shown.add_argument("--show", type=names, help="the rules whose nodes are shown, separated by commas")
+    shown.add_argument("--hide", type=names, help="the rules whose nodes are left out, separated by commas")
+    view.add_argument(
+        "--max-nodes", type=int, default=MAX_NODES, help=f"the most nodes in the page; {MAX_NODES:,} if not given"
+    )
     return parser
+
+
+def names(words: str) -> List[str]:
+    """The names of rules in an argument."""
+    return words.split(",")
 
 
 def main(words: Optional[List[str]] = None) -> int:
@@ -33,9 +44,9 @@ def main(words: Optional[List[str]] = None) -> int:
     try:
         grammar = Grammar.from_file(options.grammar)
         with open(options.text, "rb") as file:
-            answer = grammar.match(file.read(), options.start)
+            answer = grammar.match(file.read(), options.start, show=options.show, hide=options.hide)
         with open(options.output, "w", encoding="utf-8") as file:
-            file.write(page(grammar, answer, options.text))
+            file.write(page(grammar, answer, options.text, options.max_nodes))
     except OSError as error:
         print(error, file=sys.stderr)
         return 4

@@ -2,6 +2,8 @@
 
 import os
 import re
+import shutil
+import subprocess
 import tempfile
 import unittest
 from xml.etree import ElementTree
@@ -10,7 +12,9 @@ from pegtool import Grammar
 from pegtool.__main__ import main
 from pegtool._notation import Choice, Name, Predicate, Repeat, Sequence, Terminal, expressions
 from pegtool._railroad import diagram
+from pegtool._view import parents_of
 
+NODE = shutil.which("node")
 SUM = "Sum <- Number ('+' Number)*  # a sum\nNumber <- [0-9]+ !'.' / '(' Sum ')' / ''\n"
 
 
@@ -61,13 +65,13 @@ class Diagrams(unittest.TestCase):
 
 
 class Pages(unittest.TestCase):
-    def page_of(self, grammar, text):
+    def page_of(self, grammar, text, *options):
         with tempfile.TemporaryDirectory() as folder:
             paths = [os.path.join(folder, name) for name in ("sum.peg", "sum.txt", "page.html")]
             for path, content in zip(paths, (grammar, text)):
                 with open(path, "w", encoding="utf-8") as file:
                     file.write(content)
-            status = main(["view", paths[0], paths[1], "-o", paths[2]])
+            status = main(["view", paths[0], paths[1], "-o", paths[2], *options])
             with open(paths[2], encoding="utf-8") as file:
                 return status, file.read()
 
@@ -89,6 +93,47 @@ class Pages(unittest.TestCase):
         _, page = self.page_of(SUM, "1")
         self.assertNotIn("src=", page)
         self.assertNotRegex(page, r'href="(?!#)')
+
+    def test_lines_have_numbers(self):
+        _, page = self.page_of("A <- .*\n", "ab\r\nc\n")
+        self.assertEqual(re.findall(r"<div><i>(\d+)</i>", page), ["1", "2", "3"])
+
+    def test_a_line_end_that_is_a_fault_is_shown(self):
+        _, page = self.page_of("A <- 'ab'\n", "ab\n")
+        self.assertIn('<span class="fault line-end">\n</span>', page)
+
+    def test_rules_are_hidden(self):
+        _, page = self.page_of(SUM, "1+22", "--hide", "Number")
+        self.assertEqual(page.count("<div data-n="), 1)
+        _, page = self.page_of(SUM, "(1)", "--show", "Sum")
+        # The root and the sum in parentheses.
+        self.assertEqual(page.count("<div data-n="), 2)
+
+    def test_a_large_tree_is_cut_with_a_note(self):
+        # The root and a node for each of 30 numbers.
+        _, page = self.page_of(SUM, "+".join("1" * 30), "--max-nodes", "10")
+        self.assertEqual(page.count("<div data-n="), 10)
+        self.assertIn("The tree has 31 nodes, and the first 10 are shown.", page)
+        # The sizes that the page knows are those of the nodes that it has.
+        self.assertIn("const sizes = [10, 1, 1, 1, 1, 1, 1, 1, 1, 1];", page)
+
+    def test_parents_are_found_by_levels(self):
+        self.assertEqual(parents_of([1, 2, 3, 3, 2, 3]), [-1, 0, 1, 1, 0, 4])
+
+    def test_a_long_text_is_cut(self):
+        _, page = self.page_of("A <- .*\n", "a" * 1_000_050)
+        self.assertIn("50 more bytes", page)
+        self.assertLess(len(page), 1_030_000)
+
+    @unittest.skipUnless(NODE, "node isn't installed")
+    def test_the_script_can_be_read(self):
+        _, page = self.page_of(SUM, "1+22")
+        script = page[page.index("<script>") + len("<script>") : page.index("</script>")]
+        with tempfile.TemporaryDirectory() as folder:
+            path = os.path.join(folder, "script.js")
+            with open(path, "w", encoding="utf-8") as file:
+                file.write(script)
+            subprocess.run([NODE, "--check", path], check=True, timeout=60)
 
     def test_text_is_escaped(self):
         _, page = self.page_of("A <- .*\n", "<script>&")
