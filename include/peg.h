@@ -277,7 +277,7 @@ uint32_t peg_explainer_explain(peg_explainer *explainer, const uint8_t *name, si
 /* Releases what a handle holds and leaves the handle null. Its memory is freed if no other handle shares it. */
 void peg_explanation_free(peg_explanation *explanation);
 
-/* Copies the message to `out`: `NAME:LINE:COLUMN: expected ITEMS, found CHARACTER`, the line of the text, and a caret.
+/* Copies the message to `out`: `NAME:LINE:COLUMN: expected ITEMS, found WORD`, the line of the text, and a caret.
  * If the grammar is too large for an analysis of its items, a line with a note follows. Each line ends with LF; there
  * is no final null byte. If the message is longer than `out_length`, only its start is copied. Returns the length of
  * the whole message, or 0 if the handle holds no explanation. */
