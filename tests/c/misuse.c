@@ -222,7 +222,7 @@ static void explanations_have_their_statuses(void) {
     CHECK(peg_explanation_expected(&explanation, 0, spans, 3) == 1);
     CHECK(spans[0].start == 5 && spans[0].end == 7 && spans[1].end == 9);
     CHECK(peg_explanation_expected(&explanation, 1, spans, 3) == 0);
-    const char *expected = "t:1:1: expected no B, found 'b'\nbx\n^\n";
+    const char *expected = "t:1:1: expected something other than B, found 'b'\nbx\n^\n";
     CHECK(peg_explanation_message(&explanation, message, sizeof message) == strlen(expected));
     CHECK(strcmp((char *)message, expected) == 0);
     CHECK(peg_explanation_message(&explanation, message, 1) == strlen(expected));
