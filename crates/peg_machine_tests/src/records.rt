@@ -5,7 +5,7 @@ use std::alloc::{AllocError, Global};
 use std::io;
 use std::io::Read;
 
-// A source of these bytes, which passes on so many of them a call. A broken one fails in place of its end.
+// A source of these bytes, which gives at most a number of them in each call. A broken one fails in place of its end.
 #[derive(Drop)]
 struct Pieces {
     left: &'static [u8],
