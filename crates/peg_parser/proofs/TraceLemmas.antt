@@ -14,10 +14,11 @@ use Rattle.peg_semantics.specs.Starts.{Recognizes}
 use Rattle.peg_runs.specs.Accounts.{OwnSteps}
 use Rattle.peg_machine.specs.SelectedTests.{IsCoreOutcomeBy}
 use Rattle.peg_machine.specs.Traced.{HasTraced, HasTracedFirst, HasTracedSoFar, IsVisited, OwnStepsExceed, TracesInOrder}
+use Rattle.peg_machine.specs.declared.fault.RunFault.{RunFault}
 use Rattle.peg_machine.specs.declared.fault.RunFault.TheVariants.{StepLimit}
 use Rattle.peg_tree.specs.declared.outcome.Outcome.{Outcome}
 use Rattle.peg_machine.specs.declared.answer.Answer.{Answer}
-use Rattle.peg_parser.specs.Calls.{AreCallsOf, AreCallsSoFar, AreFirstCalls, AreStepsOf, TracesCallsInOrder}
+use Rattle.peg_parser.specs.Calls.{AreCallsOf, AreCallsSoFar, AreFirstCalls, AreSomeCalls, AreStepsOf, TracesCallsInOrder}
 use Rattle.peg_parser.specs.SelectedOutcomes.{FitsBy, IsParseOutcomeBy}
 use Rattle.peg_parser.specs.declared.parser.ParseFault.{ParseFault}
 use Rattle.peg_parser.specs.Engine.{engine_rules, shown_in}
@@ -91,25 +92,33 @@ engine-calls-in-order engine text start gets bytes less is =
     let held = subst (λ (bodies : List CoreForm). TracesInOrder bodies text start gets) (same-bodies engine) is in
     (held.1, recognized engine text start held.0 held.1 bytes less held.2, held.3)
 
--- the calls of a run that was stopped are calls of Ford's record
+-- the calls of a run without an answer are calls of Ford's record
+pub engine-some-calls : (engine : Engine) (text : List ℕ) (start : ℕ) (max_steps : Option ℕ) (fault : RunFault)
+    (calls : List RuleCall) → AreBytes text → start < length (engine_rules engine)
+    → HasTracedSoFar (bodies_of engine.program.core) text start max_steps fault calls
+    → AreSomeCalls (engine_rules engine) text (name_of (engine_rules engine) start) calls
+engine-some-calls engine text start max_steps fault calls bytes less is call has =
+    let held = subst (λ (bodies : List CoreForm). HasTracedSoFar bodies text start max_steps fault calls)
+    (same-bodies engine) is in
+    let there = held.visited call has in
+    (there.1, recognized engine text start there.0 there.1 bytes less there.2, there.3)
+
+-- at the step limit their steps exceed the limit
 pub engine-calls-so-far : (engine : Engine) (text : List ℕ) (start : ℕ) (max_steps : Option ℕ) (calls : List RuleCall)
     → AreBytes text → start < length (engine_rules engine)
     → HasTracedSoFar (bodies_of engine.program.core) text start max_steps StepLimit calls
     → AreCallsSoFar (engine_rules engine) text (name_of (engine_rules engine) start) max_steps calls
 engine-calls-so-far engine text start max_steps calls bytes less is =
-    let rules = engine_rules engine in
     let held = subst (λ (bodies : List CoreForm). HasTracedSoFar bodies text start max_steps StepLimit calls)
     (same-bodies engine) is in
     let limited = held.limited refl in
     record {
-      of_record = λ call has.
-          let there = held.visited call has in
-          (there.1, recognized engine text start there.0 there.1 bytes less there.2, there.3);
+      of_record = engine-some-calls engine text start max_steps StepLimit calls bytes less is;
       limit = limited.0;
       own = limited.1;
       asked = limited.2;
       own_steps = limited.3;
-      exceed = subst (λ (n : ℕ). OwnStepsExceed (core_bodies rules) text n limited.0 limited.1)
+      exceed = subst (λ (n : ℕ). OwnStepsExceed (core_bodies (engine_rules engine)) text n limited.0 limited.1)
           (sym (number-named engine start less)) limited.4;
     }
 

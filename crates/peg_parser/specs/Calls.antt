@@ -30,11 +30,15 @@ AreFirstCalls rules text start calls =
 abbrev pub IsCallOf : List Rule → List ℕ → (start : List ℕ) → RuleCall → Type 0
 IsCallOf rules text start call = (r : Record) × Recognizes rules text start r × Contains r.calls call
 
+-- the calls are some of Ford's record of a text from the start rule with this name
+abbrev pub AreSomeCalls : List Rule → List ℕ → (start : List ℕ) → List RuleCall → Type 0
+AreSomeCalls rules text start calls = (call : RuleCall) → Contains calls call → IsCallOf rules text start call
+
 -- The calls are some of Ford's record of a text from the start rule with this name. There is a limit of steps, and the
 -- steps of the bodies of these calls alone are more than the limit.
 pub record AreCallsSoFar (rules : List Rule) (text start : List ℕ) (max_steps : Option ℕ) (calls : List RuleCall)
     : Type 0 where
-  pub of_record : (call : RuleCall) → Contains calls call → IsCallOf rules text start call
+  pub of_record : AreSomeCalls rules text start calls
   pub limit : ℕ
   pub own : ℕ
   pub asked : max_steps ≡ Some limit
@@ -52,6 +56,10 @@ abbrev pub TracesCallsSoFar : List Rule → List ℕ → (start : List ℕ) → 
 TracesCallsSoFar rules text start memo max_steps gets =
     (calls : List RuleCall) × gets calls × AreCallsSoFar rules text start max_steps calls
     × (memo ≡ 0 → AreFirstCalls rules text start calls)
+
+-- a parse that ran out of memory had shown a tracer some calls of the record
+abbrev pub TracesSomeCalls : List Rule → List ℕ → (start : List ℕ) → (gets : List RuleCall → Type 0) → Type 0
+TracesSomeCalls rules text start gets = (calls : List RuleCall) × gets calls × AreSomeCalls rules text start calls
 
 -- The steps are the own steps of the bodies of calls, and one more for the end of a match.
 abbrev pub AreStepsOf : List Rule → List ℕ → List RuleCall → Parsed → (steps : ℕ) → Type 0

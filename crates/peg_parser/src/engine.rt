@@ -65,7 +65,7 @@ fn plain_steps(bytes: usize, max_steps: Option<u64>) -> u64
 impl Engine {
     ghost use Rattle.peg_semantics.specs.Rules.{name_of};
     ghost use Rattle.peg_parser.specs.Calls.{AreCallsSoFar, AreFirstCalls, TracesCallsInOrder, TracesCallsOf};
-    ghost use Rattle.peg_parser.specs.Calls.{TracesCallsSoFar};
+    ghost use Rattle.peg_parser.specs.Calls.{TracesCallsSoFar, TracesSomeCalls};
     ghost use Rattle.peg_parser.specs.Engine.{engine_rules, shown_in};
     ghost use Rattle.peg_parser.specs.ParseContract.{IsParse};
     ghost use Rattle.peg_parser.specs.Parser.{start_named};
@@ -186,6 +186,10 @@ impl Engine {
             → IfSome (start_name (engine_rules self.now) (start_named options.now))
             (λ start. TracesCallsSoFar (engine_rules self.now) text.now start options.now.memo options.now.steps
             (GetsCalls W.records W.traced watch.old watch.new)) }
+        ensures out_of_memory { IsErrOf result ParseFault.Memory
+            → IfSome (start_name (engine_rules self.now) (start_named options.now))
+            (λ start. TracesSomeCalls (engine_rules self.now) text.now start
+            (GetsCalls W.records W.traced watch.old watch.new)) }
         ensures untraced { IsErrOf result ParseFault.NoSuchStart → watch.new ≡ watch.old }
         ensures untraced_long { IsErrOf result ParseFault.TextTooLong → watch.new ≡ watch.old }
     {
@@ -226,6 +230,8 @@ impl Engine {
         ensures stopped { IsErrOf result ParseFault.StepLimit → (calls : List RuleCall)
             × GetsCalls W.records W.traced watch.old watch.new calls
             × AreCallsSoFar (engine_rules self.now) text.now (name_of (engine_rules self.now) start) max_steps calls }
+        ensures out_of_memory { IsErrOf result ParseFault.Memory → TracesSomeCalls (engine_rules self.now) text.now
+            (name_of (engine_rules self.now) start) (GetsCalls W.records W.traced watch.old watch.new) }
     {
         let mut store = SelectiveStore::new(alloc, capacity, &self.costs, text)?;
         self.answer(alloc, text, start, among, &mut store, watch, max_steps)
@@ -256,6 +262,8 @@ impl Engine {
             → (calls : List RuleCall) × GetsCalls W.records W.traced watch.old watch.new calls
             × AreCallsSoFar (engine_rules self.now) text.now (name_of (engine_rules self.now) start) max_steps calls
             × AreFirstCalls (engine_rules self.now) text.now (name_of (engine_rules self.now) start) calls }
+        ensures out_of_memory { IsErrOf result ParseFault.Memory → TracesSomeCalls (engine_rules self.now) text.now
+            (name_of (engine_rules self.now) start) (GetsCalls W.records W.traced watch.old watch.new) }
     {
         let mut memo = NoMemo;
         let mut store = CopiedNodes::new(alloc, &mut memo);
@@ -294,6 +302,8 @@ impl Engine {
             → (calls : List RuleCall) × GetsCalls W.records W.traced watch.old watch.new calls
             × AreCallsSoFar (engine_rules self.now) text.now (name_of (engine_rules self.now) start) max_steps calls
             × AreFirstCalls (engine_rules self.now) text.now (name_of (engine_rules self.now) start) calls }
+        ensures out_of_memory { IsErrOf result ParseFault.Memory → TracesSomeCalls (engine_rules self.now) text.now
+            (name_of (engine_rules self.now) start) (GetsCalls W.records W.traced watch.old watch.new) }
     {
         a_selected_tree_has_no_other_rules();
         match run_in_store(

@@ -66,7 +66,7 @@ impl From<AllocError> for ParseFault {
 impl Parser {
     ghost use Rattle.peg_parser.specs.Accepts.{Accepts, code_size};
     ghost use Rattle.peg_parser.specs.Calls.{TracesCallsInOrder, TracesCallsOf};
-    ghost use Rattle.peg_parser.specs.Calls.{TracesCallsSoFar};
+    ghost use Rattle.peg_parser.specs.Calls.{TracesCallsSoFar, TracesSomeCalls};
     ghost use Rattle.peg_parser.specs.Faults.{RefusalMeaning, HasCause, HasDefinitionsOf};
     ghost use Rattle.peg_parser.specs.GrammarRefusals.{IsRefusalOfGrammar};
     ghost use Rattle.peg_parser.specs.ParseContract.{IsParse};
@@ -238,7 +238,7 @@ impl Parser {
     ///
     /// The errors are those of `parse`. After `NoSuchStart` and `TextTooLong` the tracer is as it was. After
     /// `StepLimit` it has been shown the calls made so far: some of these calls, and without a memo the first of them.
-    /// After `Memory` it may have been shown some of them.
+    /// After `Memory` it has been shown some of these calls, or none.
     ///
     /// # Example
     ///
@@ -267,6 +267,10 @@ impl Parser {
         ensures stopped { IsErrOf result ParseFault.StepLimit
             → IfSome (start_name (parser_rules self.now) (start_named options.now))
             (λ start. TracesCallsSoFar (parser_rules self.now) text.now start options.now.memo options.now.steps
+            (GetsCalls W.records W.traced watch.old watch.new)) }
+        ensures out_of_memory { IsErrOf result ParseFault.Memory
+            → IfSome (start_name (parser_rules self.now) (start_named options.now))
+            (λ start. TracesSomeCalls (parser_rules self.now) text.now start
             (GetsCalls W.records W.traced watch.old watch.new)) }
         ensures untraced { IsErrOf result ParseFault.NoSuchStart → watch.new ≡ watch.old }
         ensures untraced_long { IsErrOf result ParseFault.TextTooLong → watch.new ≡ watch.old }

@@ -3,7 +3,7 @@ ghost use Rattle.std.specs.Prelude.{◌≡◌, IfOk, IfSome, IsErrOf, None, OnOk
 ghost use Rattle.std.specs.List.Sorted.{IsStrictlyIncreasing};
 ghost use Rattle.peg_grammar.specs.GrammarRules.{rules_in};
 ghost use Rattle.peg_machine.specs.Traced.{GetsCalls};
-ghost use Rattle.peg_parser.specs.Calls.{TracesCallsInOrder, TracesCallsOf, TracesCallsSoFar};
+ghost use Rattle.peg_parser.specs.Calls.{TracesCallsInOrder, TracesCallsOf, TracesCallsSoFar, TracesSomeCalls};
 ghost use Rattle.peg_parser.specs.Engine.{engine_rules, rules_shown, shown_in, shown_parser_rules};
 ghost use Rattle.peg_parser.specs.ParseContract.{IsParse};
 ghost use Rattle.peg_parser.specs.Parser.{parser_rules, start_named};
@@ -110,6 +110,10 @@ impl ShownParser {
         ensures stopped { IsErrOf result ParseFault.StepLimit
             → IfSome (start_name (shown_parser_rules self.now) (start_named options.now))
             (λ start. TracesCallsSoFar (shown_parser_rules self.now) text.now start options.now.memo options.now.steps
+            (GetsCalls W.records W.traced watch.old watch.new)) }
+        ensures out_of_memory { IsErrOf result ParseFault.Memory
+            → IfSome (start_name (shown_parser_rules self.now) (start_named options.now))
+            (λ start. TracesSomeCalls (shown_parser_rules self.now) text.now start
             (GetsCalls W.records W.traced watch.old watch.new)) }
         ensures untraced { IsErrOf result ParseFault.NoSuchStart → watch.new ≡ watch.old }
         ensures untraced_long { IsErrOf result ParseFault.TextTooLong → watch.new ≡ watch.old }

@@ -10,7 +10,7 @@ use Rattle.peg_machine.specs.Traced.{GetsCalls, Traces}
 use Rattle.peg_parser.specs.Engine.{shown_in}
 use Rattle.peg_parser.proofs.CoreStarts.{length-bodies}
 use Rattle.peg_parser.proofs.ParseLemmas.{parse_of_run}
-use Rattle.peg_parser.proofs.TraceLemmas.{engine-calls, engine-calls-in-order, engine-calls-so-far, engine-first-calls, engine-steps}
+use Rattle.peg_parser.proofs.TraceLemmas.{engine-calls, engine-calls-in-order, engine-calls-so-far, engine-first-calls, engine-some-calls, engine-steps}
 use Rattle.peg_parser.proofs.engine.Engine.answer.Goals as goal
 
 pub run_in_store-requires-clause-rule : goal.run_in_store-requires-clause-rule
@@ -130,4 +130,19 @@ returns-in-Err-StepLimit-clause-stopped_in_order g c never is =
           traced.2.so_far,
       engine-first-calls c.args.self.now c.args.text.now c.args.start c.args.max_steps traced.0 bytes c.requires.start
           traced.2,
+    )
+
+-- the calls of a run that ran out of memory
+pub returns-in-Err-Memory-clause-out_of_memory : goal.returns-in-Err-Memory-clause-out_of_memory
+returns-in-Err-Memory-clause-out_of_memory g c is =
+    let memory = c.in-Err-Memory.is ∙ ap Err c.in-Err-Memory.field-0-is in
+    let traced = c.run_in_store.ensures.run.traced in (
+      traced.0,
+      traced.1,
+      engine-some-calls c.args.self.now c.args.text.now c.args.start c.args.max_steps run.Memory traced.0
+          (All-from_get_or (λ byte. byte < 256) c.args.text.now 0 (λ i within. (c.type_inv.text i).fits))
+          c.requires.start
+          (subst (λ (result : Result Answer RunFault). Traces (bodies_of c.args.self.now.program.core) c.args.text.now
+          c.args.start (g.S.NodeStore.state c.args.store.now).memo.capacity (g.S.NodeStore.state c.run_in_store.new.store).memo.allocation_failed
+          c.args.max_steps result traced.0) memory traced.2),
     )

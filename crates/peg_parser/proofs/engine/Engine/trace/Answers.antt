@@ -1,7 +1,7 @@
 use Rattle.std.proofs.Common.{◌≡◌, ℕ, IfSome, List, None, Option, arith, refl, subst, sym}
 use Rattle.std.proofs.lemmas.Result.{on_ok_weaker}
 use Rattle.peg_machine.specs.Traced.{GetsCalls}
-use Rattle.peg_parser.specs.Calls.{TracesCallsInOrder, TracesCallsSoFar}
+use Rattle.peg_parser.specs.Calls.{TracesCallsInOrder, TracesCallsSoFar, TracesSomeCalls}
 use Rattle.peg_parser.specs.Engine.{engine_rules, shown_in}
 use Rattle.peg_parser.specs.Parser.{start_named}
 use Rattle.peg_semantics.specs.Rules.{name_of}
@@ -46,6 +46,13 @@ returns-in-Some-2-clause-stopped g c is =
     (GetsCalls g.W.Watch.records g.W.Watch.traced c.args.watch.now c.answer_plain.new.watch)))
     (sym c.in-Some.ensures.named) (all.0, all.1, all.2, λ _. all.3)
 
+pub returns-in-Some-2-clause-out_of_memory : goal.returns-in-Some-2-clause-out_of_memory
+returns-in-Some-2-clause-out_of_memory g c is =
+    subst
+    (λ (named : Option (List ℕ)). IfSome named (λ start. TracesSomeCalls (engine_rules c.args.self.now) c.args.text.now start
+    (GetsCalls g.W.Watch.records g.W.Watch.traced c.args.watch.now c.answer_plain.new.watch)))
+    (sym c.in-Some.ensures.named) (c.answer_plain.ensures.out_of_memory is)
+
 -- ---- with a memo
 
 pub returns-in-Some-3-clause-parse : goal.returns-in-Some-3-clause-parse
@@ -62,3 +69,10 @@ returns-in-Some-3-clause-stopped g c is =
     c.args.options.now.memo c.args.options.now.steps
     (GetsCalls g.W.Watch.records g.W.Watch.traced c.args.watch.now c.answer_with_memo.new.watch)))
     (sym c.in-Some.ensures.named) (all.0, all.1, all.2, λ none. absurd (omega (arith, none)))
+
+pub returns-in-Some-3-clause-out_of_memory : goal.returns-in-Some-3-clause-out_of_memory
+returns-in-Some-3-clause-out_of_memory g c is =
+    subst
+    (λ (named : Option (List ℕ)). IfSome named (λ start. TracesSomeCalls (engine_rules c.args.self.now) c.args.text.now start
+    (GetsCalls g.W.Watch.records g.W.Watch.traced c.args.watch.now c.answer_with_memo.new.watch)))
+    (sym c.in-Some.ensures.named) (c.answer_with_memo.ensures.out_of_memory is)
