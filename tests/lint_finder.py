@@ -15,7 +15,7 @@ from reference import FAILS, NOTHING, SPACING, Expr, Grammar, Reader, expression
 PROVED = ("UnusedRule", "NeverMatches", "NeverTried", "AlwaysFails", "NoEffect", "SameAlternative", "Shadowed",
           "NeverStops", "ReversedRange")
 HABITS = ("EmptyAlternative", "AnyAtEnd", "ClassBeginsWithCaret", "ClassEndsInRange", "RangeOverSigns", "HoldsLineEnd",
-          "HighBytesInClass", "BlanksInClass")
+          "HighBytesInClass", "BlanksInClass", "RepeatedByte")
 KINDS = PROVED + HABITS
 MAY_BE_MISSED = frozenset({"SameAlternative", "Shadowed", "NeverStops"})
 PREDICATES = ("and", "not")
@@ -127,7 +127,11 @@ class Finder:
             yield part_of("HighBytesInClass", expr)
         if re.fullmatch(rb"\[ .+ \]", text, re.S):
             yield part_of("BlanksInClass", expr)
+        seen: set[int] = set()
         for start, end, first, last in self.ranges(expr):
+            if seen.intersection(range(first, last + 1)):
+                yield Part("RepeatedByte", start, end)
+            seen.update(range(first, last + 1))
             if first > last:
                 yield Part("ReversedRange", start, end)
             if self.file[start:end].endswith(b"-]"):
@@ -141,9 +145,10 @@ class Finder:
         while at < expr.end - 1:
             start = at
             first, at = self.reader.char(start)
+            last = first
             if self.file[at : at + 1] == b"-":
                 last, at = self.reader.char(at + 1)
-                yield start, at, first, last
+            yield start, at, first, last
 
     def last_dot(self, number: int) -> Expr | None:
         """The last item of a rule before another one, if it is a dot after an item other than a predicate or a dot."""

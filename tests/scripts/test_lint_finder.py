@@ -53,14 +53,18 @@ class Kinds(unittest.TestCase):
         self.assertEqual(found(b"S <- [z-a] 'x'"), [("NeverMatches", 5, 14), ("ReversedRange", 6, 9)])
         self.assertEqual(found(b"S <- [+-]]"), [("ClassEndsInRange", 6, 9)])
         self.assertEqual(found(rb"S <- [+-\]] [\x41-\101]"), [])
-        self.assertEqual(found(b"S <- [A-z_] [0-9a-fA-F]"), [("RangeOverSigns", 6, 9)])
+        self.assertEqual(found(b"S <- [A-z] [0-9a-fA-F]"), [("RangeOverSigns", 6, 9)])
         self.assertEqual(found(b"S <- [0-9+-.] [!-/]"), [("RangeOverSigns", 9, 12)])
+
+    def test_repeated_bytes_of_a_class(self) -> None:
+        self.assertEqual(found(b"S <- [0-9,a-f,A-F]"), [("RepeatedByte", 13, 14)])
+        self.assertEqual(found(rb"S <- [a-mm-z] [A\x41] [a-mn-z]"), [("RepeatedByte", 9, 12), ("RepeatedByte", 16, 20)])
 
     def test_bytes_of_classes_and_literals(self) -> None:
         self.assertEqual(found(b"Text <- [^x]+\n"), [("ClassBeginsWithCaret", 8, 12)])
         self.assertEqual(found("S <- 'é' [é]".encode()), [("HighBytesInClass", 10, 14)])
         self.assertEqual(found(b"S <- '\n' [\r] '\\n'"), [("HoldsLineEnd", 5, 8), ("HoldsLineEnd", 9, 12)])
-        self.assertEqual(found(b"S <- [ T ] [  ] [ T]"), [("BlanksInClass", 5, 10)])
+        self.assertEqual(found(b"S <- [ T ] [ T]"), [("BlanksInClass", 5, 10), ("RepeatedByte", 8, 9)])
 
     def test_a_dot_at_the_end_of_a_rule(self) -> None:
         self.assertEqual(found(b"S <- T . # end\nT <- 't' ."), [("AnyAtEnd", 7, 8)])

@@ -61,3 +61,4 @@ module _ (rules : List Rule) (start : ℕ) (l0 l1 : List Warning) (all : FindsRu
   decided-found kind.HoldsLineEnd number span by is = absurd is
   decided-found kind.HighBytesInClass number span by is = absurd is
   decided-found kind.BlanksInClass number span by is = absurd is
+  decided-found kind.RepeatedByte number span by is = absurd is

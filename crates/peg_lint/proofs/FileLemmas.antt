@@ -3,12 +3,13 @@ use Rattle.std.proofs.Common.{◌≡◌, ◌<◌, ℕ, Bool, IsTrue, List, [], �
 use Rattle.std.proofs.lemmas.Bool.Decides.{nat_tests}
 use Rattle.std.proofs.lemmas.List.Elements.{All-push, All-weaker, Contains-append_left, Contains-push}
 use Rattle.peg_bytes.specs.Extent.{Extent, extent}
+use Rattle.peg_metagrammar.specs.Ranges.{Range}
 use Rattle.peg_semantics.specs.Form.{Form, Forms}
 use Rattle.peg_semantics.specs.Rules.{Rule}
 use Rattle.peg_semantics.specs.WellFormed.{subexpressions}
 use Rattle.peg_lint.specs.FileWarnings.{IsTrueOfFile, IsTrueWarningIn}
 use Rattle.peg_lint.specs.Habits.{text_in}
-use Rattle.peg_lint.specs.Linting.{Adds, AddsIn, AddsTrue, FindsIf, FindsRanges, FindsRuleText, FindsText, FindsTexts, FindsWhole, Keeps, KeepsTrue}
+use Rattle.peg_lint.specs.Linting.{Adds, AddsIn, AddsTrue, FindsIf, FindsRange, FindsRanges, FindsRuleText, FindsText, FindsTexts, FindsWhole, Keeps, KeepsTrue}
 use Rattle.peg_lint.specs.Linting.{FindsExcluded, FindsItems, FindsOf, FindsOfAll, FindsOperator, FindsRule}
 use Rattle.peg_lint.specs.Warnings.{HasWarning, IsTrueWarning, extent_of}
 use Rattle.peg_lint.specs.declared.warning.Warning.{Warning}
@@ -149,6 +150,15 @@ module _ (one two : List Warning) (keeps : Keeps one two) where
     reversed = λ span is. HasWarning-later kind.ReversedRange number span None (finds.reversed span is);
     to_bracket = λ span is. HasWarning-later kind.ClassEndsInRange number span None (finds.to_bracket span is);
     over_signs = λ span is. HasWarning-later kind.RangeOverSigns number span None (finds.over_signs span is);
+    repeats = λ span is. HasWarning-later kind.RepeatedByte number span None (finds.repeats span is);
+  }
+
+  pub FindsRange-later : (file : List ℕ) (number : ℕ) (span : Extent) (bytes : Range)
+      → FindsRange file number span bytes one → FindsRange file number span bytes two
+  FindsRange-later file number span bytes finds = record {
+    reversed = λ h. HasWarning-later kind.ReversedRange number span None (finds.reversed h);
+    to_bracket = λ h. HasWarning-later kind.ClassEndsInRange number span None (finds.to_bracket h);
+    over_signs = λ h. HasWarning-later kind.RangeOverSigns number span None (finds.over_signs h);
   }
 
   pub FindsText-later : (file : List ℕ) (number : ℕ) (e : Form) → FindsText file number one e

@@ -101,6 +101,8 @@ module _ (file : List ℕ) (rules : List Rule) (found : List Warning) (all : Fin
   says-found kind.BlanksInClass number span is =
       class-text has_blanks_around kind.BlanksInClass number is.1 span
       ((text-of number (Class is.0 is.1) is.2).class is.0 is.1 refl is.3).0.blanks is.4.0 is.4.1
+  says-found kind.RepeatedByte number span is =
+      ((text-of number (Class is.0 is.1) is.2).class is.0 is.1 refl is.3).1.repeats span is.4
 
 -- ---- all of the file
 
@@ -125,6 +127,7 @@ decided-reported selection.Proved rules start kind.RangeOverSigns number span by
 decided-reported selection.Proved rules start kind.HoldsLineEnd number span by is = absurd is
 decided-reported selection.Proved rules start kind.HighBytesInClass number span by is = absurd is
 decided-reported selection.Proved rules start kind.BlanksInClass number span by is = absurd is
+decided-reported selection.Proved rules start kind.RepeatedByte number span by is = absurd is
 
 -- what was found, selected and sorted
 pub FindsAll-sorted : (file : List ℕ) (rules : List Rule) (start : ℕ) (selection : Selection)

@@ -13,6 +13,7 @@ mod OutcomeLemmas
 mod PartLemmas
 mod RangeLemmas
 mod ReachLemmas
+mod RepeatLemmas
 mod SameLemmas
 mod StopLemmas
 mod TextLemmas

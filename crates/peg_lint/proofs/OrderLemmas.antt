@@ -34,7 +34,8 @@ kind_at n =
     (cond (nat_eq n 9) kind.EmptyAlternative (cond (nat_eq n 10) kind.AnyAtEnd
     (cond (nat_eq n 11) kind.ClassBeginsWithCaret (cond (nat_eq n 12) kind.ClassEndsInRange
     (cond (nat_eq n 13) kind.RangeOverSigns (cond (nat_eq n 14) kind.HoldsLineEnd
-    (cond (nat_eq n 15) kind.HighBytesInClass kind.BlanksInClass)))))))))))))))
+    (cond (nat_eq n 15) kind.HighBytesInClass
+    (cond (nat_eq n 16) kind.BlanksInClass kind.RepeatedByte))))))))))))))))
 
 kind_at-rank : (what : WarningKind) → kind_at (rank_of what) ≡ what
 kind_at-rank kind.UnusedRule = refl
@@ -54,6 +55,7 @@ kind_at-rank kind.RangeOverSigns = refl
 kind_at-rank kind.HoldsLineEnd = refl
 kind_at-rank kind.HighBytesInClass = refl
 kind_at-rank kind.BlanksInClass = refl
+kind_at-rank kind.RepeatedByte = refl
 
 kind-same : (a b : WarningKind) → rank_of a ≡ rank_of b → a ≡ b
 kind-same a b h = sym (kind_at-rank a) ∙ ap kind_at h ∙ kind_at-rank b

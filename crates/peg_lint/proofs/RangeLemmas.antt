@@ -6,8 +6,8 @@ use Rattle.peg_metagrammar.specs.Denotation.{Bytes}
 use Rattle.peg_metagrammar.specs.Ranges.{Range, range}
 use Rattle.peg_lint.specs.FileWarnings.{IsRangeText}
 use Rattle.peg_lint.specs.Habits.{ends_in_bracket, goes_over_signs, text_in}
-use Rattle.peg_lint.specs.Linting.{FindsIf, FindsRange, FindsRanges, FindsRangesBefore, Keeps}
-use Rattle.peg_lint.specs.Spelling.{IsRangeAt, IsRangeOfClass, RangesBetween, none, one_more, range_match}
+use Rattle.peg_lint.specs.Linting.{FindsIf, FindsRange, FindsRanges, FindsRangesBefore, FindsRepeat, Keeps}
+use Rattle.peg_lint.specs.Spelling.{IsRangeAt, IsRangeOfClass, IsRepeatedRange, RangesBetween, none, one_more, range_match}
 use Rattle.peg_lint.specs.Warnings.{HasWarning}
 use Rattle.peg_lint.specs.declared.warning.Warning.{Warning}
 use Rattle.peg_lint.specs.declared.warning.WarningKind.{WarningKind}
@@ -103,8 +103,9 @@ module _ (file : List ℕ) where
   -- the warnings about one more range are found
   pub FindsRangesBefore-next : (number : ℕ) (class : Extent) (at length : ℕ) (bytes : Range) (l0 l1 : List Warning)
       → IsRangeAt file at length bytes → Keeps l0 l1 → FindsRange file number (between at (at + length)) bytes l1
+      → FindsRepeat file number class (between at (at + length)) l1
       → FindsRangesBefore file number class at l0 → FindsRangesBefore file number class (at + length) l1
-  FindsRangesBefore-next number class at length bytes l0 l1 read keeps here finds = record {
+  FindsRangesBefore-next number class at length bytes l0 l1 read keeps here repeat finds = record {
     reversed = λ span is.
         elim (finds.reversed span is) [
           | inl has ↦ inl (later kind.ReversedRange span has)
@@ -118,6 +119,17 @@ module _ (file : List ℕ) where
         ];
     to_bracket = of_text ends_in_bracket kind.ClassEndsInRange here.to_bracket finds.to_bracket;
     over_signs = of_text goes_over_signs kind.RangeOverSigns here.over_signs finds.over_signs;
+    repeats = λ span is.
+        elim (finds.repeats span is) [
+          | inl has ↦ inl (later kind.RepeatedByte span has)
+          | inr leads ↦
+              elim (this-or-later class at length bytes read span is.bytes is.is leads) [
+                | inl this ↦
+                    inl (subst (λ s. HasWarning l1 kind.RepeatedByte number s None) (sym this.0)
+                    (repeat (subst (IsRepeatedRange file class) this.0 is)))
+                | inr after ↦ inr after
+              ]
+        ];
   }
     where
       later : (what : WarningKind) (span : Extent) → HasWarning l0 what number span None
@@ -166,6 +178,11 @@ module _ (file : List ℕ) where
           | inl has ↦ has
           | inr leads ↦ absurd (no-more class at none_fits span is.0 is.1 leads)
         ];
+    repeats = λ span is.
+        elim (finds.repeats span is) [
+          | inl has ↦ has
+          | inr leads ↦ absurd (no-more class at none_fits span is.bytes is.is leads)
+        ];
   }
 
   -- a class without an inside has no warning about ranges
@@ -175,4 +192,5 @@ module _ (file : List ℕ) where
     reversed = λ span is. absurd (no-inside class span (range is.0 is.1) short is.2);
     to_bracket = λ span is. absurd (no-inside class span is.0 short is.1);
     over_signs = λ span is. absurd (no-inside class span is.0 short is.1);
+    repeats = λ span is. absurd (no-inside class span is.bytes short is.is);
   }

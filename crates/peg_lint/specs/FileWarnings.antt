@@ -9,7 +9,7 @@ use Rattle.peg_semantics.specs.Form.{And, Not, End, Then}
 use Rattle.peg_semantics.specs.Rules.{Rule}
 use Rattle.peg_lint.specs.Habits.{text_in, begins_with_caret, ends_in_bracket, goes_over_signs, has_blanks_around}
 use Rattle.peg_lint.specs.Habits.{EndsRule, IsWithin, holds_high_byte, holds_line_end}
-use Rattle.peg_lint.specs.Spelling.{IsRangeOfClass, IsReversedRange}
+use Rattle.peg_lint.specs.Spelling.{IsRangeOfClass, IsRepeatedRange, IsReversedRange}
 use Rattle.peg_lint.specs.Warnings.{FindsDecided, HasWarning, IsLaterAlternative, IsPartOfRule, IsTrueWarning}
 use Rattle.peg_lint.specs.Warnings.{extent_of}
 use Rattle.peg_lint.specs.declared.warning.Selection.{Selection}
@@ -122,6 +122,8 @@ SaysOfFile kind.RangeOverSigns file rules number span =
 SaysOfFile kind.HoldsLineEnd file rules number span = IsOverLineEnd file rules number span
 SaysOfFile kind.HighBytesInClass file rules number span = IsClassText holds_high_byte file rules number span
 SaysOfFile kind.BlanksInClass file rules number span = IsClassText has_blanks_around file rules number span
+SaysOfFile kind.RepeatedByte file rules number span =
+    IsClassWith file rules number (λ class. IsRepeatedRange file class span)
 
 -- a warning is true of the file, and names no cause
 abbrev pub IsTrueOfFile : (file : List ℕ) → List Rule → Warning → Type 0
@@ -151,6 +153,7 @@ is_proved kind.RangeOverSigns = false
 is_proved kind.HoldsLineEnd = false
 is_proved kind.HighBytesInClass = false
 is_proved kind.BlanksInClass = false
+is_proved kind.RepeatedByte = false
 
 -- whether warnings of a kind are reported
 abbrev pub selects : Selection → WarningKind → Bool

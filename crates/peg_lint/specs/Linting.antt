@@ -2,8 +2,8 @@
 use Rattle.std.specs.Prelude.{◌≡◌, ◌⊎◌, ◌<◌, ◌≤◌, ℕ, Bool, true, false, IsTrue, List, [], ◌∷◌, All, Contains, None, Some}
 use Rattle.std.specs.Prelude.{Option, length, slice_get}
 use Rattle.std.specs.Prelude.{nat_lt, slice_index_or}
-use Rattle.peg_metagrammar.specs.Ranges.{Range}
-use Rattle.peg_bytes.specs.ByteSet.{Bytes}
+use Rattle.peg_metagrammar.specs.Ranges.{Range, holds}
+use Rattle.peg_bytes.specs.ByteSet.{Bytes, has}
 use Rattle.peg_bytes.specs.Extent.{Extent}
 use Rattle.peg_bytes.specs.declared.span.Span.{Span}
 use Rattle.peg_semantics.specs.AbstractOutcomes.{Can, no_outcome}
@@ -17,7 +17,7 @@ use Rattle.peg_lint.specs.Habits.{IsWithin, begins_with_caret, ends_in_bracket, 
 use Rattle.peg_lint.specs.Habits.{holds_high_byte, holds_line_end, text_in}
 use Rattle.peg_lint.specs.Never.{FailsWhere}
 use Rattle.peg_lint.specs.Outcomes.{AreOutcomes}
-use Rattle.peg_lint.specs.Spelling.{IsReversedRange, RangesBetween}
+use Rattle.peg_lint.specs.Spelling.{IsRangeOfClass, IsRepeatedRange, IsReversedRange, RangesBetween}
 use Rattle.peg_lint.specs.Excluded.{CannotMatch}
 use Rattle.peg_lint.specs.Warnings.{HasWarning, IsAmong, IsClassOrPredicate, IsFailingPredicate, IsWithoutUse, IsItemOf}
 use Rattle.peg_lint.specs.Warnings.{IsLaterAlternative, IsRepeatOf}
@@ -94,6 +94,26 @@ pub record FindsRange (file : List ℕ) (number : ℕ) (span : Extent) (bytes : 
   pub to_bracket : FindsIf (ends_in_bracket (text_in file span)) kind.ClassEndsInRange number span found
   pub over_signs : FindsIf (goes_over_signs (text_in file span)) kind.RangeOverSigns number span found
 
+-- a byte is in a range of the class that ends at an offset or before
+abbrev pub IsInEarlier : (file : List ℕ) → (class : Extent) → (at byte : ℕ) → Type 0
+IsInEarlier file class at byte =
+    (span : Extent) × (bytes : Range) × IsRangeOfClass file class span bytes × (span.end ≤ at) × IsTrue (holds byte bytes)
+
+-- a set has the bytes of the ranges of a class up to an offset
+pub record AreSeen (file : List ℕ) (class : Extent) (at : ℕ) (set : Bytes) : Type 0 where
+  pub sound : (byte : ℕ) → IsTrue (has set byte) → IsInEarlier file class at byte
+  pub complete : (span : Extent) (bytes : Range) (byte : ℕ) → IsRangeOfClass file class span bytes
+      → IsTrue (holds byte bytes) → IsTrue (has set byte) ⊎ RangesBetween file at span.start
+
+-- a set and a range have a byte in common
+abbrev pub HaveCommonByte : Bytes → Range → Type 0
+HaveCommonByte set bytes = (byte : ℕ) × IsTrue (has set byte) × IsTrue (holds byte bytes)
+
+-- the warning about a range with a byte of an earlier one is found
+abbrev pub FindsRepeat : (file : List ℕ) → (number : ℕ) → (class span : Extent) → List Warning → Type 0
+FindsRepeat file number class span found =
+    IsRepeatedRange file class span → HasWarning found kind.RepeatedByte number span None
+
 -- the warnings about the ranges of a class are found
 pub record FindsRanges (file : List ℕ) (number : ℕ) (class : Extent) (found : List Warning) : Type 0 where
   pub reversed : (span : Extent) → IsReversedRange file class span
@@ -102,6 +122,7 @@ pub record FindsRanges (file : List ℕ) (number : ℕ) (class : Extent) (found 
       → HasWarning found kind.ClassEndsInRange number span None
   pub over_signs : (span : Extent) → IsRangeText goes_over_signs file class span
       → HasWarning found kind.RangeOverSigns number span None
+  pub repeats : (span : Extent) → FindsRepeat file number class span found
 
 -- the warnings about the ranges of a class are found, but for those that an offset leads to
 pub record FindsRangesBefore (file : List ℕ) (number : ℕ) (class : Extent) (at : ℕ) (found : List Warning) : Type 0
@@ -112,6 +133,8 @@ pub record FindsRangesBefore (file : List ℕ) (number : ℕ) (class : Extent) (
         → HasWarning found kind.ClassEndsInRange number span None ⊎ RangesBetween file at span.start
     pub over_signs : (span : Extent) → IsRangeText goes_over_signs file class span
         → HasWarning found kind.RangeOverSigns number span None ⊎ RangesBetween file at span.start
+    pub repeats : (span : Extent) → IsRepeatedRange file class span
+        → HasWarning found kind.RepeatedByte number span None ⊎ RangesBetween file at span.start
 
 -- the warnings about a class within the file are found
 abbrev pub FindsClass : (file : List ℕ) → (number : ℕ) → Extent → List Warning → Type 0

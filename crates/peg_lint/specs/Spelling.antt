@@ -1,10 +1,10 @@
 -- The ranges of a class, as the lexer reads them in a grammar file (Ford 2004, section 2.1).
-use Rattle.std.specs.Prelude.{◌≡◌, ℕ, ◌+◌, ◌<◌, ◌≤◌, List, [], ◌∷◌, Some, drop}
+use Rattle.std.specs.Prelude.{◌≡◌, ℕ, ◌+◌, ◌<◌, ◌≤◌, IsTrue, List, [], ◌∷◌, Some, drop}
 use Rattle.peg_bytes.specs.Extent.{Extent}
 use Rattle.peg_lexer.specs.Lexical.{classed_range}
 use Rattle.peg_lexer.specs.Matchers.{PrefixMatch}
 use Rattle.peg_metagrammar.specs.Denotation.{Bytes}
-use Rattle.peg_metagrammar.specs.Ranges.{Range, range}
+use Rattle.peg_metagrammar.specs.Ranges.{Range, holds, range}
 
 -- the match of a range in a class
 abbrev pub range_match : Range → (length : ℕ) → PrefixMatch
@@ -33,3 +33,15 @@ pub record IsRangeOfClass (file : List ℕ) (class span : Extent) (bytes : Range
 abbrev pub IsReversedRange : List ℕ → (class span : Extent) → Type 0
 IsReversedRange file class span =
     (low high : ℕ) × IsRangeOfClass file class span (range low high) × (high < low)
+
+-- an extent has a range of the class with a byte of an earlier range of the class
+pub record IsRepeatedRange (file : List ℕ) (class span : Extent) : Type 0 where
+  pub bytes : Range
+  pub is : IsRangeOfClass file class span bytes
+  pub earlier : Extent
+  pub earlier_bytes : Range
+  pub earlier_is : IsRangeOfClass file class earlier earlier_bytes
+  pub before : earlier.end ≤ span.start
+  pub byte : ℕ
+  pub in_it : IsTrue (holds byte bytes)
+  pub in_earlier : IsTrue (holds byte earlier_bytes)

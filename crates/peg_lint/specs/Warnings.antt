@@ -305,6 +305,7 @@ Decides kind.RangeOverSigns rules start number span by = ⊥
 Decides kind.HoldsLineEnd rules start number span by = ⊥
 Decides kind.HighBytesInClass rules start number span by = ⊥
 Decides kind.BlanksInClass rules start number span by = ⊥
+Decides kind.RepeatedByte rules start number span by = ⊥
 
 -- What each kind of warning says of the rules, with what decides it. `SaysOfFile` has the kinds that say something of
 -- the file's bytes.
@@ -332,6 +333,7 @@ Says kind.RangeOverSigns rules start number span by = ⊥
 Says kind.HoldsLineEnd rules start number span by = ⊥
 Says kind.HighBytesInClass rules start number span by = ⊥
 Says kind.BlanksInClass rules start number span by = ⊥
+Says kind.RepeatedByte rules start number span by = ⊥
 
 -- a warning is true of a grammar with these rules, parsed from this start rule
 abbrev pub IsTrueWarning : List Rule → (start : ℕ) → Warning → Type 0
@@ -372,6 +374,7 @@ rank_of kind.RangeOverSigns = 13
 rank_of kind.HoldsLineEnd = 14
 rank_of kind.HighBytesInClass = 15
 rank_of kind.BlanksInClass = 16
+rank_of kind.RepeatedByte = 17
 
 -- Warnings in the order of the starts of their extents. Those with the same start are in the order of their kinds, and
 -- those of the same kind in the order of their ends.

@@ -1,6 +1,6 @@
 //! Warnings about the texts of classes and literals.
-ghost use Rattle.std.specs.Prelude.{◌≡◌, ◌<◌, ◌≤◌, ◌+◌, ℕ, IsTrue, List, length, IfNone, IfSome, OnOk};
-ghost use Rattle.peg_bytes.specs.ByteSet.{Bytes};
+ghost use Rattle.std.specs.Prelude.{◌≡◌, ◌<◌, ◌≤◌, ◌↔◌, ◌+◌, ℕ, IsTrue, List, length, IfNone, IfSome, OnOk};
+ghost use Rattle.peg_bytes.specs.ByteSet.{Bytes, bytes_of};
 ghost use Rattle.peg_bytes.specs.Extent.{Extent, extent};
 ghost use Rattle.peg_metagrammar.specs.Ranges.{Range};
 ghost use Rattle.peg_metagrammar.specs.RangesCode.{range_of};
@@ -8,8 +8,8 @@ ghost use Rattle.peg_semantics.specs.Form.{Class, Literal};
 ghost use Rattle.peg_semantics.specs.Rules.{Rule};
 ghost use Rattle.peg_lint.specs.FileWarnings.{SaysOfFile};
 ghost use Rattle.peg_lint.specs.Habits.{IsWithin, text_in};
-ghost use Rattle.peg_lint.specs.Linting.{AddsIn, FindsClass, FindsIf, FindsLineEnd};
-ghost use Rattle.peg_lint.specs.Linting.{FindsRange, FindsRanges, FindsWhole};
+ghost use Rattle.peg_lint.specs.Linting.{AddsIn, AreSeen, FindsClass, FindsIf, FindsLineEnd, FindsRepeat};
+ghost use Rattle.peg_lint.specs.Linting.{FindsRange, FindsRanges, FindsWhole, HaveCommonByte};
 ghost use Rattle.peg_lint.specs.Spelling.{IsRangeAt, IsRangeOfClass};
 ghost use Rattle.peg_lint.specs.Warnings.{IsPartOfRule};
 
@@ -18,7 +18,7 @@ use crate::habits::{
     holds_line_end, text_in,
 };
 use crate::{Warning, WarningKind};
-use peg_bytes::Span;
+use peg_bytes::{ByteSet, Span};
 use peg_lexer::classed_range;
 use peg_metagrammar::ByteRange;
 use std::alloc::AllocError;
@@ -97,6 +97,37 @@ fn add_of_range(
     add_if(over_signs, WarningKind::RangeOverSigns, rule, span, found)
 }
 
+// Returns whether a set and a range have a byte in common. Takes time linear in the bytes of the range before such a
+// byte.
+fn have_common_byte(set: &ByteSet, bytes: ByteRange) -> bool
+    ensures { IsTrue result ↔ HaveCommonByte (bytes_of set.now) (range_of bytes) }
+{
+    for byte in bytes.low..=bytes.high {
+        if set.contains(byte) {
+            return true;
+        }
+    }
+    false
+}
+
+// Adds a warning if a range of a class has a byte of the ranges before it. `seen` has their bytes.
+fn add_of_repeat(
+    seen: &ByteSet,
+    rule: u32,
+    span: Span,
+    bytes: ByteRange,
+    found: &mut Vec<Warning>,
+) -> Result<(), AllocError>
+    ensures { OnOk result ((file : List ℕ) (rules : List Rule) (set : Bytes) (class : Extent)
+        → IsPartOfRule rules rule (Class set class)
+        → IsWithin file class → IsRangeOfClass file class (extent span) (range_of bytes) → span.start < span.end
+        → AreSeen file class span.start (bytes_of seen.now)
+        → AddsIn file rules (FindsRepeat file rule class (extent span)) found.old.items found.new.items) }
+{
+    let is_repeated = have_common_byte(seen, bytes);
+    add_if(is_repeated, WarningKind::RepeatedByte, rule, span, found)
+}
+
 // Adds the warnings about the ranges of a class. Takes time linear in the class.
 fn add_of_ranges(
     file: &[u8],
@@ -112,9 +143,12 @@ fn add_of_ranges(
         return Ok(());
     }
     let mut at = class.start + 1;
+    let mut seen = ByteSet::empty();
     'spelled: while let Some(range) = range_within(file, at, class.end) {
         let span = Span::new(at, at + range.length);
         add_of_range(file, rule, span, range.bytes, found)?;
+        add_of_repeat(&seen, rule, span, range.bytes, found)?;
+        seen = seen.union(&ByteSet::range(range.bytes.low, range.bytes.high));
         at = span.end;
     }
     Ok(())

@@ -28,6 +28,7 @@ fn rank(kind: WarningKind) -> u32
         WarningKind::HoldsLineEnd => 14,
         WarningKind::HighBytesInClass => 15,
         WarningKind::BlanksInClass => 16,
+        WarningKind::RepeatedByte => 17,
     }
 }
 

@@ -42,6 +42,8 @@ pub enum WarningKind {
     HighBytesInClass,
     /// A class with a space at both ends, and something between them.
     BlanksInClass,
+    /// A byte or a range in a class that has a byte of an earlier one.
+    RepeatedByte,
 }
 
 impl WarningKind {
@@ -69,7 +71,8 @@ impl WarningKind {
             | WarningKind::RangeOverSigns
             | WarningKind::HoldsLineEnd
             | WarningKind::HighBytesInClass
-            | WarningKind::BlanksInClass => false,
+            | WarningKind::BlanksInClass
+            | WarningKind::RepeatedByte => false,
         }
     }
 }

@@ -30,6 +30,7 @@ kind_name kind.RangeOverSigns = codes "RangeOverSigns"
 kind_name kind.HoldsLineEnd = codes "HoldsLineEnd"
 kind_name kind.HighBytesInClass = codes "HighBytesInClass"
 kind_name kind.BlanksInClass = codes "BlanksInClass"
+kind_name kind.RepeatedByte = codes "RepeatedByte"
 
 -- the members of a warning, with the span of its cause first if it has one
 abbrev pub with_cause : Option Span → Members → Members

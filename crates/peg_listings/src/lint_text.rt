@@ -182,5 +182,6 @@ fn name_of_kind(kind: WarningKind) -> &'static str
         WarningKind::HoldsLineEnd => "HoldsLineEnd",
         WarningKind::HighBytesInClass => "HighBytesInClass",
         WarningKind::BlanksInClass => "BlanksInClass",
+        WarningKind::RepeatedByte => "RepeatedByte",
     }
 }

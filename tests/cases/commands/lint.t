@@ -123,6 +123,7 @@ With the habits they have every kind of the two tables once.
   NeverTried
   NoEffect
   RangeOverSigns
+  RepeatedByte
   ReversedRange
   SameAlternative
   Shadowed

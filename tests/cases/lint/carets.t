@@ -12,7 +12,7 @@ The class begins with `[^`, alone or with other bytes, and after other items.
   {"warnings":[{"column":10,"end":13,"kind":"ClassBeginsWithCaret","line":1,"proved":false,"rule":"S","start":9}]}
   [1]
   $ printf 'S <- [^^]' | pegtool lint /dev/stdin
-  {"warnings":[{"column":6,"end":9,"kind":"ClassBeginsWithCaret","line":1,"proved":false,"rule":"S","start":5}]}
+  {"warnings":[{"column":6,"end":9,"kind":"ClassBeginsWithCaret","line":1,"proved":false,"rule":"S","start":5},{"column":8,"end":8,"kind":"RepeatedByte","line":1,"proved":false,"rule":"S","start":7}]}
   [1]
   $ printf "S <- [^a-z]+ 'A'" | pegtool lint /dev/stdin
   {"warnings":[{"column":6,"end":11,"kind":"ClassBeginsWithCaret","line":1,"proved":false,"rule":"S","start":5}]}

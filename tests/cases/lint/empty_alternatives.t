@@ -40,5 +40,5 @@ A sequence, empty parentheses in one, and slashes in a literal or class aren't e
   {"warnings":[]}
   $ printf "S <- 'a' ()" | pegtool lint /dev/stdin
   {"warnings":[]}
-  $ printf "S <- 'a//b' / [//]" | pegtool lint /dev/stdin
+  $ printf "S <- 'a//b' / [/]" | pegtool lint /dev/stdin
   {"warnings":[]}

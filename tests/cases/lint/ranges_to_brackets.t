@@ -1,18 +1,19 @@
 The habit ClassEndsInRange: `-]` where a class seems to end, so that the range goes to the bracket.
 
-The range ends at the bracket, and the class ends only at the next one.
+The range ends at the bracket, and the class ends only at the next one. What follows in the class is often in the range,
+so it is repeated.
 
   $ printf 'S <- [+-]]' | pegtool lint /dev/stdin
   {"warnings":[{"column":7,"end":9,"kind":"ClassEndsInRange","line":1,"proved":false,"rule":"S","start":6}]}
   [1]
   $ printf 'S <- [A-]..]' | pegtool lint /dev/stdin
-  {"warnings":[{"column":7,"end":9,"kind":"ClassEndsInRange","line":1,"proved":false,"rule":"S","start":6}]}
+  {"warnings":[{"column":7,"end":9,"kind":"ClassEndsInRange","line":1,"proved":false,"rule":"S","start":6},{"column":11,"end":11,"kind":"RepeatedByte","line":1,"proved":false,"rule":"S","start":10}]}
   [1]
   $ printf 'S <- [+-]?[0-9]+' | pegtool lint /dev/stdin
-  {"warnings":[{"column":7,"end":9,"kind":"ClassEndsInRange","line":1,"proved":false,"rule":"S","start":6}]}
+  {"warnings":[{"column":7,"end":9,"kind":"ClassEndsInRange","line":1,"proved":false,"rule":"S","start":6},{"column":10,"end":10,"kind":"RepeatedByte","line":1,"proved":false,"rule":"S","start":9},{"column":11,"end":11,"kind":"RepeatedByte","line":1,"proved":false,"rule":"S","start":10},{"column":12,"end":14,"kind":"RepeatedByte","line":1,"proved":false,"rule":"S","start":11}]}
   [1]
   $ printf 'S <- [0-9,-]]' | pegtool lint /dev/stdin
-  {"warnings":[{"column":10,"end":12,"kind":"ClassEndsInRange","line":1,"proved":false,"rule":"S","start":9}]}
+  {"warnings":[{"column":10,"end":12,"kind":"ClassEndsInRange","line":1,"proved":false,"rule":"S","start":9},{"column":10,"end":12,"kind":"RepeatedByte","line":1,"proved":false,"rule":"S","start":9}]}
   [1]
   $ printf 'S <- [--]]' | pegtool lint /dev/stdin
   {"warnings":[{"column":7,"end":9,"kind":"ClassEndsInRange","line":1,"proved":false,"rule":"S","start":6}]}

@@ -29,16 +29,16 @@ The item is in line 2, and the repetition before it is the member by.
   {"warnings":[{"by":[5,7],"column":3,"end":13,"kind":"NeverStops","line":2,"proved":true,"rule":"S","start":10}]}
   [1]
 
-The class begins with a caret, and has no blank after its bracket.
+The class begins with a caret, and has no blank after its bracket. Its second blank is repeated.
 
   $ printf 'S <- [^ a ]\n' | pegtool lint /dev/stdin
-  {"warnings":[{"column":6,"end":11,"kind":"ClassBeginsWithCaret","line":1,"proved":false,"rule":"S","start":5}]}
+  {"warnings":[{"column":6,"end":11,"kind":"ClassBeginsWithCaret","line":1,"proved":false,"rule":"S","start":5},{"column":10,"end":10,"kind":"RepeatedByte","line":1,"proved":false,"rule":"S","start":9}]}
   [1]
 
-A class may have two habits, and a literal with a raw line end has a third one.
+A class may have two habits, and a literal with a raw line end has a third one. The second blank is repeated, too.
 
   $ printf "S <- [ \200 ] '\n'\n" | pegtool lint /dev/stdin
-  {"warnings":[{"column":6,"end":10,"kind":"HighBytesInClass","line":1,"proved":false,"rule":"S","start":5},{"column":6,"end":10,"kind":"BlanksInClass","line":1,"proved":false,"rule":"S","start":5},{"column":12,"end":14,"kind":"HoldsLineEnd","line":1,"proved":false,"rule":"S","start":11}]}
+  {"warnings":[{"column":6,"end":10,"kind":"HighBytesInClass","line":1,"proved":false,"rule":"S","start":5},{"column":6,"end":10,"kind":"BlanksInClass","line":1,"proved":false,"rule":"S","start":5},{"column":9,"end":9,"kind":"RepeatedByte","line":1,"proved":false,"rule":"S","start":8},{"column":12,"end":14,"kind":"HoldsLineEnd","line":1,"proved":false,"rule":"S","start":11}]}
   [1]
 
 The dot ends the first rule, and the range of the second one goes to the bracket.
