@@ -19,7 +19,7 @@ pub blame-explains : (rules : List Rule) (style : ItemStyle) (text : List ℕ) (
     (outcome : Outcome) (Says : ItemFacts → Outcome → Type 0)
     → IfSome found (λ start. IsBlameOutcome rules text start outcome)
     → ((start : List ℕ) → found ≡ Some start → (is : IsBlameOutcome rules text start outcome)
-    → (rests : List Rest) × AreRestsFor rules style text outcome is.blame.calls rests
+    → (rests : List Rest) × AreRestsFor rules style text start outcome is.blame.calls rests
     × Says (facts_by_blame rules rests) outcome)
     → IfSome found (λ start. IsExplained rules style text start Says)
 blame-explains rules style text None outcome Says blamed says = tt

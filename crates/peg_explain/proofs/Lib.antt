@@ -1,6 +1,9 @@
 mod ExpectedLemmas
 mod ExplanationLemmas
+mod FileOrderLemmas
 mod MappedLemmas
 mod NamingLemmas
+mod PartLemmas
 pub mod RefusalCauses
 pub mod RefusalLemmas
+mod SelectedLemmas

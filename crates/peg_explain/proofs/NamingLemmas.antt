@@ -1,90 +1,88 @@
--- Which rules stand for items: rests that are added one by one.
-use Rattle.std.proofs.Common.{◌≡◌, ◌∙◌, ℕ, zero, suc, ◌+◌, ◌<◌, ◌==◌, Bool, true, false, not, ◌&&◌, ◌||◌, ◌⊎◌, inl, inr}
-use Rattle.std.proofs.Common.{All, List, [], ◌∷◌, ◌++◌, Option, None, Some, if◌then◌else◌, ap, arith, get_or}
-use Rattle.std.proofs.Common.{◌≤◌, bytes_eq, drop, length, refl, subst, sym, take}
-use Rattle.std.proofs.lemmas.List.{take_all}
-use Rattle.std.proofs.lemmas.List.Elements.{All-more, All-nil, All-push, All-weaker, Contains-get_or}
-use Rattle.std.proofs.lemmas.List.Folds.{list_any-append}
-use Rattle.std.proofs.lemmas.Bool.Decides.{nat_tests}
+-- Which rules a message names.
+use Rattle.std.proofs.Common.{◌≡◌, ◌∙◌, ℕ, zero, suc, ◌<◌, Bool, true, false, not, ◌&&◌, ◌||◌, ◌⊎◌, inl, inr, List, []}
+use Rattle.std.proofs.Common.{◌∷◌, Option, None, Some, if◌then◌else◌, All, ap, arith, bytes_eq, length, map, refl, subst, sym, take, ◌≤◌}
+use Rattle.std.proofs.lemmas.List.{length-map}
 use Rattle.std.proofs.lemmas.Slice.Eq.{bytes_eq-Decides}
 use Rattle.std.specs.List.{list_any}
-use Rattle.std.specs.Prelude.{Err, IfErr, IsErrAnd, IsErrOf, Ok, Result}
-use Rattle.peg_blame.specs.BlameOutcome.{IsBlameOutcome}
+use Rattle.std.specs.Prelude.{Err, IfErr, IfOk, IsErrAnd, IsErrOf, Ok, Result}
+use Rattle.std.specs.declared.alloc.Global.{Global}
+use Rattle.std.specs.declared.vec.Vec.{Vec}
 use Rattle.peg_diagnostics.specs.Diagnostic.{diagnostic_rules}
 use Rattle.peg_grammar.specs.Limits.{max_text_bytes}
 use Rattle.peg_parser.specs.StepLimits.{TakesMoreSteps}
 use Rattle.peg_parser.specs.declared.parser.ParseFault.{ParseFault}
 use Rattle.peg_parser.specs.declared.parser.ParseFault.TheVariants as fault
 use Rattle.peg_semantics.specs.Record.{RuleCall}
-use Rattle.peg_semantics.specs.Rules.{Rule, name_of, names}
+use Rattle.peg_semantics.specs.Rules.{Rule, is_defined, name_of, names}
 use Rattle.peg_semantics.specs.Starts.{start_name}
 use Rattle.peg_tree.specs.declared.outcome.Outcome.{Outcome}
-use Rattle.peg_explain.specs.Explanations.{AreRestsBy, max_named, nameable_items}
-use Rattle.peg_explain.specs.Names.{AreRests, CanBeNamed, NamesSome, has_rest}
+use Rattle.peg_explain.specs.Explanations.{AreRestsBy, names_rules}
+use Rattle.peg_explain.specs.Names.{AreRests, IsRest, max_named, rules_called_at}
 use Rattle.peg_explain.specs.Reports.{are_items_expected, is_whole_match}
 use Rattle.peg_explain.specs.declared.names.Rest.{Rest}
+use Rattle.peg_explain.specs.declared.style.ItemStyle.{ItemStyle}
 
--- ---- which items can be named
+-- ---- when rules are named
 
-most : max_named ≡ 64
+pub most : max_named ≡ 64
 unfolding max_named
 most = refl
 
--- the first items, of a text that doesn't match as a whole
-pub first-nameable : (bytes : ℕ) (outcome : Outcome) → is_whole_match outcome.result bytes ≡ false
-    → true ≡ are_items_expected outcome.result outcome.far
-    → take 64 outcome.expected.items ≡ nameable_items bytes outcome
-first-nameable bytes outcome differs asked =
-    ap (λ (n : ℕ). take n outcome.expected.items) (sym most)
-    ∙ (λ i. if not (sym differs i) && asked i then take max_named outcome.expected.items else [])
+module _ (style : ItemStyle) (bytes : ℕ) (outcome : Outcome) where
+  -- the style decides, if items are expected
+  pub named-by_style : is_whole_match outcome.result bytes ≡ false
+      → true ≡ are_items_expected outcome.result outcome.far → style.uses_names ≡ names_rules style bytes outcome
+  named-by_style differs asked =
+      sym (and-true (style.uses_names && true) ∙ and-true style.uses_names) ∙ (λ i. style.uses_names && not (sym differs i) && asked i)
+    where
+      and-true : (b : Bool) → (b && true) ≡ b
+      and-true true = refl
+      and-true false = refl
 
--- no items, if the text matches as a whole or none are expected
-pub none-nameable : (bytes : ℕ) (outcome : Outcome)
-    → (is_whole_match outcome.result bytes ≡ true) ⊎ (are_items_expected outcome.result outcome.far ≡ false)
-    → nameable_items bytes outcome ≡ []
-none-nameable bytes outcome (inl whole) =
-    ap (λ (b : Bool). if not b && are_items_expected outcome.result outcome.far
-    then take max_named outcome.expected.items else []) whole
-none-nameable bytes outcome (inr unasked) =
-    ap (λ (b : Bool). if not (is_whole_match outcome.result bytes) && b
-    then take max_named outcome.expected.items else []) unasked
-    ∙ by (not (is_whole_match outcome.result bytes))
+  -- no rules are named, if the text matches as a whole or no items are expected
+  pub none-named : (is_whole_match outcome.result bytes ≡ true) ⊎ (are_items_expected outcome.result outcome.far ≡ false)
+      → names_rules style bytes outcome ≡ false
+  none-named (inl whole) =
+      ap (λ (b : Bool). style.uses_names && not b && are_items_expected outcome.result outcome.far) whole
+      ∙ both style.uses_names (are_items_expected outcome.result outcome.far)
+    where
+      both : (a b : Bool) → (a && false && b) ≡ false
+      both true b = refl
+      both false b = refl
+  none-named (inr unasked) =
+      ap (λ (b : Bool). style.uses_names && not (is_whole_match outcome.result bytes) && b) unasked
+      ∙ and-false (style.uses_names && not (is_whole_match outcome.result bytes))
+    where
+      and-false : (b : Bool) → (b && false) ≡ false
+      and-false true = refl
+      and-false false = refl
+
+module _ (rules : List Rule) (text start : List ℕ) (calls : List RuleCall) where
+  -- no rests, if no rules are named
+  pub no-rests : (named : Bool) (at : ℕ) → named ≡ false → AreRestsBy named rules text start calls at []
+  no-rests false at none = refl
+  no-rests true at none = absurd (let bad : true ≡ false = none in cc)
+
+  -- the rests by which rules are named, if they are
+  pub rests-by : (named : Bool) (at there : ℕ) (rests : List Rest) → named ≡ true → at ≡ there
+      → AreRests rules text start calls at rests → AreRestsBy named rules text start calls there rests
+  rests-by false at there rests used place are = absurd (let bad : false ≡ true = used in cc)
+  rests-by true at there rests used place are =
+      subst (λ (p : ℕ). AreRests rules text start calls p rests) place are
+
+-- ---- the name of the start
+
+-- a given start is the start
+pub given-start : (rules : List Rule) (name start : List ℕ) → start_name rules (Some name) ≡ Some start → name ≡ start
+given-start rules name start is = by (is_defined rules name) is
   where
-    by : (b : Bool) → (if b && false then take max_named outcome.expected.items else []) ≡ []
-    by true = refl
-    by false = refl
-
--- ---- rests
-
-module _ (rules : List Rule) (text : List ℕ) (calls : List RuleCall) (at : ℕ) where
-  -- no items are named by no rests
-  pub no-rests : (uses_names : Bool) (items : List ℕ) → items ≡ []
-      → AreRestsBy uses_names rules text calls at items []
-  no-rests false items none = refl
-  no-rests true items none = subst (λ (all : List ℕ). AreRests rules text calls at all []) (sym none) (record {
-    needed = All-nil (λ rest. NamesSome rules calls at [] rest.rule);
-    outcomes = All-nil _;
-    complete = All-nil _;
-  })
-
--- a rest stays when one is added
-pub has_rest-kept : (rests : List Rest) (more : Rest) (rule : ℕ) → has_rest rests rule ≡ true
-    → has_rest (rests ++ more ∷ []) rule ≡ true
-has_rest-kept rests more rule has =
-    list_any-append (λ (rest : Rest). rest.rule == rule) rests (more ∷ [])
-    ∙ ap (λ (b : Bool). b || list_any (λ (rest : Rest). rest.rule == rule) (more ∷ [])) has
+    by : (b : Bool) → (if b then Some name else None) ≡ Some start → name ≡ start
+    by true same = cc
+    by false same = absurd (let bad : None ≡ Some start = same in cc)
 
 or-true : (b : Bool) → (b || true) ≡ true
 or-true true = refl
 or-true false = refl
-
--- the rest that is added is there
-pub has_rest-added : (rests : List Rest) (more : Rest) (rule : ℕ) → (more.rule == rule) ≡ true
-    → has_rest (rests ++ more ∷ []) rule ≡ true
-has_rest-added rests more rule same =
-    list_any-append (λ (rest : Rest). rest.rule == rule) rests (more ∷ [])
-    ∙ ap (λ (b : Bool). list_any (λ (rest : Rest). rest.rule == rule) rests || (b || false)) same
-    ∙ or-true (list_any (λ (rest : Rest). rest.rule == rule) rests)
 
 -- ---- the name of a rule
 
@@ -102,69 +100,6 @@ pub start-of_rule : (rules : List Rule) (rule : ℕ) → rule < length rules
     → start_name rules (Some (name_of rules rule)) ≡ Some (name_of rules rule)
 start-of_rule rules rule within =
     ap (λ (b : Bool). if b then Some (name_of rules rule) else None) (defined rules rule within)
-
--- ---- rests that are added one by one
-
--- The rests after the first items: they are needed, they are outcomes, and those of the first items are there.
-pub record AreRestsSoFar (rules : List Rule) (text : List ℕ) (calls : List RuleCall) (at : ℕ)
-    (items : List ℕ) (index : ℕ) (rests : List Rest) : Type 0 where
-  pub needed : All (λ rest. NamesSome rules calls at items rest.rule) rests
-  pub outcomes : All (λ rest. IsBlameOutcome rules (drop at text) (name_of rules rest.rule) rest.outcome) rests
-  pub complete : All (λ item. (rule : ℕ) → CanBeNamed rules calls at item rule → has_rest rests rule ≡ true)
-      (take index items)
-
-module _ (rules : List Rule) (text : List ℕ) (calls : List RuleCall) (at : ℕ) (items : List ℕ) where
-  -- no rests at first
-  pub no-rests-so-far : AreRestsSoFar rules text calls at items 0 []
-  no-rests-so-far = record { needed = All-nil _; outcomes = All-nil _; complete = All-nil _ }
-
-  -- an item that needs no more rests
-  pub more-without : (index : ℕ) (rests : List Rest) → index < length items
-      → ((rule : ℕ) → CanBeNamed rules calls at (get_or items index 0) rule → has_rest rests rule ≡ true)
-      → AreRestsSoFar rules text calls at items index rests
-      → AreRestsSoFar rules text calls at items (index + 1) rests
-  more-without index rests within has so_far = record {
-    needed = so_far.needed;
-    outcomes = so_far.outcomes;
-    complete = All-more (λ item. (rule : ℕ) → CanBeNamed rules calls at item rule → has_rest rests rule ≡ true) items
-        index 0 within so_far.complete has;
-  }
-
-  -- an item that needs one more rest
-  pub more-with : (index : ℕ) (rests : List Rest) (more : Rest) → index < length items
-      → CanBeNamed rules calls at (get_or items index 0) more.rule
-      → IsBlameOutcome rules (drop at text) (name_of rules more.rule) more.outcome
-      → AreRestsSoFar rules text calls at items index rests
-      → AreRestsSoFar rules text calls at items (index + 1) (rests ++ more ∷ [])
-  more-with index rests more within can is so_far = record {
-    needed = All-push (λ rest. NamesSome rules calls at items rest.rule) rests more so_far.needed
-        (get_or items index 0, Contains-get_or items index 0 within, can);
-    outcomes = All-push (λ rest. IsBlameOutcome rules (drop at text) (name_of rules rest.rule) rest.outcome) rests more
-        so_far.outcomes is;
-    complete = All-more
-        (λ item. (rule : ℕ) → CanBeNamed rules calls at item rule → has_rest (rests ++ more ∷ []) rule ≡ true)
-        items index 0 within
-        (All-weaker (λ item. (rule : ℕ) → CanBeNamed rules calls at item rule → has_rest rests rule ≡ true)
-        (λ item. (rule : ℕ) → CanBeNamed rules calls at item rule → has_rest (rests ++ more ∷ []) rule ≡ true)
-        (λ item has rule this. has_rest-kept rests more rule (has rule this)) (take index items) so_far.complete)
-        (λ rule this. has_rest-added rests more rule (same-rule rule this));
-  }
-    where
-      same-rule : (rule : ℕ) → CanBeNamed rules calls at (get_or items index 0) rule → (more.rule == rule) ≡ true
-      same-rule rule this =
-          let both : Some more.rule ≡ Some rule = sym can.of_rule ∙ this.of_rule in
-          let same : more.rule ≡ rule = cc in
-          grind (arith, nat_tests)
-
-  -- all rests
-  pub all-rests : (index : ℕ) (rests : List Rest) → length items ≤ index
-      → AreRestsSoFar rules text calls at items index rests → AreRests rules text calls at items rests
-  all-rests index rests over so_far = record {
-    needed = so_far.needed;
-    outcomes = so_far.outcomes;
-    complete = subst (All (λ item. (rule : ℕ) → CanBeNamed rules calls at item rule → has_rest rests rule ≡ true))
-        (take_all index items over) so_far.complete;
-  }
 
 -- ---- the faults of a parse of the rest
 
@@ -197,11 +132,26 @@ pub not-memory : {V : Type 0} (result : Result V ParseFault) (why : ParseFault)
 not-memory {V} result why alone is =
     subst (λ (r : Result V ParseFault). IfErr r (λ stated. stated ≡ fault.Memory)) is alone
 
--- the rests by which items are named, if the style uses names
-pub rests-by : (uses_names : Bool) (rules : List Rule) (text : List ℕ) (calls : List RuleCall)
-    (at there : ℕ) (items numbers : List ℕ) (rests : List Rest) → uses_names ≡ true → at ≡ there → items ≡ numbers
-    → AreRests rules text calls at items rests → AreRestsBy uses_names rules text calls there numbers rests
-rests-by false rules text calls at there items numbers rests used place same are = cc
-rests-by true rules text calls at there items numbers rests used place same are =
-    subst (λ (p : ℕ). AreRests rules text calls p numbers rests) place
-    (subst (λ (all : List ℕ). AreRests rules text calls at all rests) same are)
+-- ---- the rests that are parsed
+
+-- the rests from the first rules that are called
+pub are-rests : (rules : List Rule) (text start : List ℕ) (calls : List RuleCall) (at : ℕ) (numbers : List ℕ)
+    (result : Result (Vec Rest Global) ParseFault) → numbers ≡ take 64 (rules_called_at rules start calls at)
+    → IfOk result (λ rests. map (λ (rest : Rest). rest.rule) rests.items ≡ numbers)
+    → IfOk result (λ rests. All (IsRest rules text at) rests.items)
+    → IfOk result (λ rests. AreRests rules text start calls at rests.items)
+are-rests rules text start calls at numbers (Err why) first from each = tt
+are-rests rules text start calls at numbers (Ok rests) first from each = record {
+  from = from ∙ first ∙ ap (λ (n : ℕ). take n (rules_called_at rules start calls at)) (sym most);
+  each = each;
+}
+
+-- there are as many rests as rules
+pub few-rests : (numbers : List ℕ) (result : Result (Vec Rest Global) ParseFault) → length numbers ≤ 64
+    → IfOk result (λ rests. map (λ (rest : Rest). rest.rule) rests.items ≡ numbers)
+    → IfOk result (λ rests. length rests.items ≤ 64)
+few-rests numbers (Err why) few from = tt
+few-rests numbers (Ok rests) few from =
+    let count = length-map rests.items (λ (rest : Rest). rest.rule) in
+    let same = ap length from in
+    omega (arith, few, count, same)

@@ -1,5 +1,5 @@
 -- Describes code: the spans of the terminals that are expected, and items without names.
-use Rattle.std.specs.Prelude.{ℕ, false, if◌then◌else◌, List, [], None, map, take}
+use Rattle.std.specs.Prelude.{ℕ, if◌then◌else◌, List, [], None, map, take}
 use Rattle.peg_bytes.specs.Extent.{Extent, extent}
 use Rattle.peg_tree.specs.declared.outcome.Outcome.{Outcome}
 use Rattle.peg_explain.specs.Explanations.{ItemFact, ItemFacts, max_items}
@@ -7,6 +7,7 @@ use Rattle.peg_explain.specs.Names.{numbered_extent}
 use Rattle.peg_explain.specs.Reports.{are_items_expected}
 use Rattle.peg_explain.specs.declared.expected.Items.{Items}
 use Rattle.peg_explain.specs.declared.mismatch.Analysis.TheVariants as analysis
+use Rattle.peg_explain.specs.declared.mismatch.Wording.TheVariants.{Spelling}
 use Rattle.peg_explain.specs.declared.names.Rest.{Rest}
 
 -- the spans with these numbers
@@ -31,4 +32,4 @@ facts_in items rests = record {
 
 -- an item of which its extent alone is known
 abbrev pub unnamed_fact : Extent → ItemFact
-unnamed_fact span = record { extent = span; rule = None; is_named = false }
+unnamed_fact span = record { extent = span; rule = None; wording = Spelling }

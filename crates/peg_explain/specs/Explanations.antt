@@ -1,11 +1,13 @@
 -- The explanation of a text: the message for the outcome of its parse.
-use Rattle.std.specs.Prelude.{◌≡◌, ◌≢◌, ◌⊎◌, ◌≤◌, ℕ, Bool, true, false, not, ◌&&◌, if◌then◌else◌, List, []}
-use Rattle.std.specs.Prelude.{◌++◌, codes, IfSome, Option, None, Some, length, map, option_map, slice_get, take}
+use Rattle.std.specs.Prelude.{◌≡◌, ◌≢◌, ◌⊎◌, ◌≤◌, ℕ, Bool, true, false, not, ◌&&◌, if◌then◌else◌, List, [], ◌∷◌}
+use Rattle.std.specs.Prelude.{◌++◌, codes, drop, IfSome, Option, None, Some, length, map, nat_le, option_map, slice_get}
+use Rattle.std.specs.Prelude.{take, unwrap_or}
+use Rattle.std.specs.List.{prefix_len}
 use Rattle.peg_blame.specs.BlameOutcome.{IsBlameOutcome}
 use Rattle.peg_blame.specs.Faults.{CanBeBlamed, IsBlameRefusal}
 use Rattle.peg_blame.specs.declared.fault.BlameFault.{BlameFault}
 use Rattle.peg_blame.specs.declared.fault.BlameFault.TheVariants.{Memory}
-use Rattle.peg_bytes.specs.Extent.{Extent, extent}
+use Rattle.peg_bytes.specs.Extent.{Extent, between, extent}
 use Rattle.peg_diagnostics.specs.Diagnostic.{diagnostic_rules}
 use Rattle.peg_diagnostics.specs.ItemKinds.{kinds_of_items}
 use Rattle.peg_diagnostics.specs.Items.{extents_of_items, rules_of_items}
@@ -22,11 +24,13 @@ use Rattle.peg_semantics.specs.Rules.{Rule, names}
 use Rattle.peg_semantics.specs.Starts.{start_name}
 use Rattle.peg_semantics.specs.Terminals.{extents_of_terminals}
 use Rattle.peg_tree.specs.declared.outcome.Outcome.{Outcome}
-use Rattle.peg_explain.specs.Names.{AreRests, is_class_or_dot, numbered_extent, stands_for}
+use Rattle.peg_explain.specs.Names.{AreRests, is_class_or_dot, is_part, numbered_extent, outermost_rules, stands_for}
 use Rattle.peg_explain.specs.declared.mismatch.Analysis.{Analysis}
 use Rattle.peg_explain.specs.declared.mismatch.Analysis.TheVariants.{Items, Tests}
 use Rattle.peg_explain.specs.declared.mismatch.ExpectedItem.{ExpectedItem}
 use Rattle.peg_explain.specs.declared.mismatch.Mismatch.{Mismatch}
+use Rattle.peg_explain.specs.declared.mismatch.Wording.{Wording}
+use Rattle.peg_explain.specs.declared.mismatch.Wording.TheVariants.{LeftOut, RuleName, Spelling}
 use Rattle.peg_explain.specs.declared.names.Rest.{Rest}
 use Rattle.peg_explain.specs.declared.style.ItemStyle.{ItemStyle}
 use Rattle.peg_explain.specs.Reports.{are_items_expected, is_end_expected, is_whole_match, named_position}
@@ -34,10 +38,6 @@ use Rattle.peg_explain.specs.Reports.{are_items_expected, is_end_expected, is_wh
 -- the most items that a message looks at
 unfoldable pub max_items : ℕ
 max_items = 65536
-
--- the most items that can be named
-unfoldable pub max_named : ℕ
-max_named = 64
 
 -- What is known of the items that a message can name: the extent of each in the grammar file, the number of the rule
 -- and the kind of each, the outcomes of the rest of the text from rules that are called at the position, and which
@@ -70,23 +70,30 @@ facts_by_tests rules =
 pub record ItemFact : Type 0 where
   pub extent : Extent
   pub rule : Option ℕ
-  pub is_named : Bool
+  pub wording : Wording
 
 abbrev pub fact_of : ExpectedItem → ItemFact
-fact_of item = record { extent = extent item.span; rule = item.rule; is_named = item.is_named }
+fact_of item = record { extent = extent item.span; rule = item.rule; wording = item.wording }
 
 -- whether the rule of an item is known and stands for the item
 abbrev pub is_named_after : List Rest → Option ℕ → (item : ℕ) → Bool
 is_named_after rests None item = false
 is_named_after rests (Some rule) item = stands_for rests rule item
 
--- The item with a number. A class or dot is named after its rule if the rule stands for it.
+-- How an item is written. A part of a rule that fails at once is left out, since the rule is written. Another class or
+-- dot is named after its rule if the rule stands for it.
+abbrev pub item_wording : ItemFacts → (number : ℕ) → Wording
+item_wording facts number =
+    if is_part facts.rests (length facts.extents) number then LeftOut else
+    if is_class_or_dot facts.kinds number && is_named_after facts.rests (slice_get facts.rules number) number
+    then RuleName else Spelling
+
+-- the item with a number
 abbrev pub item_numbered : ItemFacts → (number : ℕ) → ItemFact
 item_numbered facts number = record {
   extent = numbered_extent facts.extents number;
   rule = slice_get facts.rules number;
-  is_named =
-      is_named_after facts.rests (slice_get facts.rules number) number && is_class_or_dot facts.kinds number;
+  wording = item_wording facts number;
 }
 
 -- the items that are expected at a position
@@ -99,6 +106,7 @@ expected_items facts outcome =
 pub record IsMismatchOf (facts : ItemFacts) (outcome : Outcome) (mismatch : Mismatch) : Type 0 where
   pub at : mismatch.at ≡ named_position outcome.result outcome.far
   pub items : map fact_of mismatch.expected.items ≡ expected_items facts outcome
+  pub rules : mismatch.rules.items ≡ outermost_rules facts.rests
   pub end : mismatch.is_end_expected ≡ is_end_expected outcome.result outcome.far
   pub analysis : mismatch.analysis ≡ facts.analysis
 
@@ -110,17 +118,20 @@ HasMismatch facts text outcome (Some mismatch) =
 
 -- ---- messages
 
--- an item of a message: its bytes in the grammar file, the rule that it is said to be in, and a name in its place
+-- an item of a message: its bytes in the grammar file, the rule that it is said to be in, a name in its place, and
+-- whether it is left out
 pub record MessageItem : Type 0 where
   pub extent : Extent
   pub rule : Option (List ℕ)
   pub name : Option (List ℕ)
+  pub is_left_out : Bool
 
 abbrev pub message_item_of : Item → MessageItem
 message_item_of item = record {
   extent = extent item.span;
   rule = option_map (λ rule. rule.now) item.rule;
   name = option_map (λ name. name.now) item.name;
+  is_left_out = item.is_left_out;
 }
 
 -- the name of the rule with a number, if there is one
@@ -128,13 +139,41 @@ abbrev pub rule_name : List Rule → Option ℕ → Option (List ℕ)
 rule_name rules None = None
 rule_name rules (Some rule) = slice_get (names rules) rule
 
--- an item is written as the name of its rule, or else by its bytes; then its rule may follow
-abbrev pub shown_item : List Rule → ItemStyle → ExpectedItem → MessageItem
-shown_item rules style item = record {
-  extent = extent item.span;
-  rule = if style.shows_rules && not item.is_named then rule_name rules item.rule else None;
-  name = if item.is_named then rule_name rules item.rule else None;
+-- where the rule with a number is defined, if there is one
+abbrev pub defined_extent : List Rule → (rule : ℕ) → Extent
+defined_extent rules rule = unwrap_or (option_map (λ r. r.span) (slice_get rules rule)) (between 0 0)
+
+-- a rule as an item of a message: its name, where it is defined
+abbrev pub rule_item : List Rule → (rule : ℕ) → MessageItem
+rule_item rules rule = record {
+  extent = defined_extent rules rule;
+  rule = None;
+  name = rule_name rules (Some rule);
+  is_left_out = false;
 }
+
+-- An item is written by its bytes, and then its rule may follow, or as the name of its rule, or it is left out.
+abbrev pub worded_item : Wording → Extent → (rule : Option (List ℕ)) → (shows_rule : Bool) → MessageItem
+worded_item Spelling extent rule shows_rule =
+    record { extent = extent; rule = if shows_rule then rule else None; name = None; is_left_out = false }
+worded_item RuleName extent rule shows_rule = record { extent = extent; rule = None; name = rule; is_left_out = false }
+worded_item LeftOut extent rule shows_rule = record { extent = extent; rule = None; name = None; is_left_out = true }
+
+abbrev pub shown_item : List Rule → ItemStyle → ExpectedItem → MessageItem
+shown_item rules style item = worded_item item.wording (extent item.span) (rule_name rules item.rule) style.shows_rules
+
+-- a rule has no greater number than the rule of an item, if that is known
+abbrev pub is_before : Option ℕ → (rule : ℕ) → Bool
+is_before None rule = false
+is_before (Some own) rule = nat_le rule own
+
+-- Rules and items in the order of the grammar file, given each in this order. A rule comes before its own items.
+abbrev pub in_file_order : List Rule → ItemStyle → (named : List ℕ) → List ExpectedItem → List MessageItem
+in_file_order rules style named [] = map (rule_item rules) named
+in_file_order rules style named (item ∷ items) =
+    let before = prefix_len (is_before item.rule) named in
+    map (rule_item rules) (take before named)
+    ++ shown_item rules style item ∷ in_file_order rules style (drop before named) items
 
 -- a failure shows a mismatch in a text
 pub record IsFailureOf (file : List ℕ) (rules : List Rule) (style : ItemStyle) (name text : List ℕ) (mismatch : Mismatch)
@@ -143,7 +182,8 @@ pub record IsFailureOf (file : List ℕ) (rules : List Rule) (style : ItemStyle)
   pub has_text : failure.text.now ≡ text
   pub has_grammar : failure.grammar.now ≡ file
   pub at : failure.at ≡ mismatch.at
-  pub items : map message_item_of failure.expected.now ≡ map (shown_item rules style) mismatch.expected.items
+  pub items : map message_item_of failure.expected.now
+      ≡ in_file_order rules style mismatch.rules.items mismatch.expected.items
   pub end : failure.is_end_expected ≡ mismatch.is_end_expected
 
 -- the note at the end of a message, if terminals in predicates count
@@ -171,31 +211,29 @@ HasMessage file rules style facts name text outcome (Some message) = (mismatch :
 abbrev pub HasNoBlameParser : List Rule → Type 0
 HasNoBlameParser rules = (fault : BlameFault) × IsBlameRefusal rules fault × (fault ≢ Memory)
 
--- The items that can be named: the first ones of those that are expected. None are, if the text matches as a whole.
-abbrev pub nameable_items : (bytes : ℕ) → Outcome → List ℕ
-nameable_items bytes outcome =
-    if not (is_whole_match outcome.result bytes) && are_items_expected outcome.result outcome.far
-    then take max_named outcome.expected.items else []
+-- A message names rules if the style does and items are expected. None are, if the text matches as a whole.
+abbrev pub names_rules : ItemStyle → (bytes : ℕ) → Outcome → Bool
+names_rules style bytes outcome =
+    style.uses_names && not (is_whole_match outcome.result bytes) && are_items_expected outcome.result outcome.far
 
--- The rests by which items are named at a position, given the calls of a blame: none if the style doesn't use names.
-abbrev pub AreRestsBy : (uses_names : Bool) → List Rule → (text : List ℕ) → List RuleCall
-    → (at : ℕ) → (items : List ℕ) → List Rest → Type 0
-AreRestsBy false rules text calls at items rests = rests ≡ []
-AreRestsBy true rules text calls at items rests = AreRests rules text calls at items rests
+-- the rests by which a message names rules at a position, given the calls of a blame: none if it names none
+abbrev pub AreRestsBy : (names_rules : Bool) → List Rule → (text start : List ℕ) → List RuleCall → (at : ℕ)
+    → List Rest → Type 0
+AreRestsBy false rules text start calls at rests = rests ≡ []
+AreRestsBy true rules text start calls at rests = AreRests rules text start calls at rests
 
 -- the same for the message for an outcome, given the calls of its blame
-abbrev pub AreRestsFor : List Rule → ItemStyle → (text : List ℕ) → Outcome → List RuleCall
-    → List Rest → Type 0
-AreRestsFor rules style text outcome calls rests =
-    AreRestsBy style.uses_names rules text calls (named_position outcome.result outcome.far)
-    (nameable_items (length text) outcome) rests
+abbrev pub AreRestsFor : List Rule → ItemStyle → (text start : List ℕ) → Outcome → List RuleCall → List Rest → Type 0
+AreRestsFor rules style text start outcome calls rests =
+    AreRestsBy (names_rules style (length text) outcome) rules text start calls
+    (named_position outcome.result outcome.far) rests
 
 -- What an explanation says of a text from a start rule, given what is known of the items and the outcome: by the blame of
 -- items; or by the failed tests of terminals, if the rules have no parser of blame.
 pub data IsExplained (rules : List Rule) (style : ItemStyle) (text start : List ℕ)
     (Says : ItemFacts → Outcome → Type 0) : Type 0 where
   by_blame : (outcome : Outcome) → (is : IsBlameOutcome rules text start outcome) → (rests : List Rest)
-      → AreRestsFor rules style text outcome is.blame.calls rests
+      → AreRestsFor rules style text start outcome is.blame.calls rests
       → Says (facts_by_blame rules rests) outcome → IsExplained rules style text start Says
   by_tests : (outcome : Outcome) → HasNoBlameParser rules → IsParseOutcome rules text start outcome
       → Says (facts_by_tests rules) outcome → IsExplained rules style text start Says

@@ -27,5 +27,6 @@ pub mod Explanations
 pub mod Names
 pub mod Namings
 pub mod RefusalMessages
+pub mod Parts
 pub mod Reports
 pub mod Styles

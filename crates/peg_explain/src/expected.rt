@@ -1,16 +1,18 @@
 //! What is expected at the offset of a mismatch.
-ghost use Rattle.std.specs.Prelude.{◌≡◌, ◌^◌, ◌≤◌, ◌<◌, All, IfOk, length, map, slice_index_or, take};
+ghost use Rattle.std.specs.Prelude.{◌≡◌, ◌^◌, ◌≤◌, ◌<◌, ℕ, All, IfOk, length, map, slice_index_or, take};
 ghost use Rattle.peg_bytes.specs.Extent.{between, extent};
 ghost use Rattle.peg_parser.specs.Fits.{Fits};
 ghost use Rattle.peg_parser.specs.Parser.{parser_rules};
 ghost use Rattle.peg_semantics.specs.Terminals.{extents_of_terminals};
 ghost use Rattle.peg_explain.specs.Expected.{expected_spans, facts_in, numbered_spans, unnamed_fact};
-ghost use Rattle.peg_explain.specs.Explanations.{fact_of, is_named_after, item_numbered};
-ghost use Rattle.peg_explain.specs.Names.{is_class_or_dot};
+ghost use Rattle.peg_explain.specs.Explanations.{fact_of, is_named_after, item_numbered, item_wording};
+ghost use Rattle.peg_explain.specs.Names.{is_class_or_dot, is_part};
+ghost use Rattle.peg_explain.specs.Parts.{has_part};
 
-use crate::mismatch::ExpectedItem;
+use crate::mismatch::{ExpectedItem, Wording};
 use crate::names::{Rest, stands_for};
 use crate::outcomes::are_items_expected;
+use crate::parts::Parts;
 use peg_bytes::Span;
 use peg_diagnostics::ItemKind;
 use peg_parser::Parser;
@@ -20,9 +22,6 @@ use std::alloc::{AllocError, Global};
 // The most items that a message looks at.
 const MAX_ITEMS: usize = 65_536;
 
-/// The most items that can be named.
-pub(crate) const MAX_NAMED: usize = 64;
-
 /// The items of a grammar file: the span, the rule and the kind of each.
 #[derive(Clone, Copy)]
 pub(crate) struct Items<'a> {
@@ -31,7 +30,8 @@ pub(crate) struct Items<'a> {
     pub(crate) kinds: &'a [ItemKind],
 }
 
-/// Returns the items of the furthest failure. A class or dot is named after its rule if the rule stands for it.
+/// Returns the items of the furthest failure. The parts of rules that fail at once are left out. Another class or dot is
+/// named after its rule if the rule stands for it.
 pub(crate) fn items_of_failure(
     alloc: Global,
     items: &Items<'_>,
@@ -40,14 +40,11 @@ pub(crate) fn items_of_failure(
 ) -> Result<Vec<ExpectedItem>, AllocError>
     ensures items { IfOk result (λ list. map fact_of list.items
         ≡ map (item_numbered (facts_in items.now rests.now)) (take 65536 outcome.now.expected.items)) }
-    ensures few { IfOk result (λ list. length list.items < 2 ^ 32) }
+    ensures few { IfOk result (λ list. length list.items ≤ 65536) }
 {
-    listed_items(
-        alloc,
-        items,
-        rests,
-        first_numbers(&outcome.expected, MAX_ITEMS),
-    )
+    let parts = Parts::of_rests(alloc, rests, items.spans.len())?;
+    let numbers = first_numbers(&outcome.expected, MAX_ITEMS);
+    listed_items(alloc, items, rests, &parts, numbers)
 }
 
 // Returns the items with these numbers.
@@ -55,29 +52,49 @@ fn listed_items(
     alloc: Global,
     items: &Items<'_>,
     rests: &[Rest],
+    parts: &Parts,
     numbers: &[u32],
 ) -> Result<Vec<ExpectedItem>, AllocError>
+    requires { (item : ℕ) → has_part parts.now item ≡ is_part rests.now (length items.now.spans.now) item }
     ensures items { IfOk result (λ list. map fact_of list.items
         ≡ map (item_numbered (facts_in items.now rests.now)) numbers.now) }
     ensures count { IfOk result (λ list. length list.items ≡ length numbers.now) }
 {
     let mut list = Vec::new(alloc);
     'numbers: for number in numbers {
-        list.push(item_at(items, rests, *number))?;
+        list.push(item_at(items, rests, parts, *number))?;
     }
     Ok(list)
 }
 
 // Returns the item with a number.
-fn item_at(items: &Items<'_>, rests: &[Rest], number: u32) -> ExpectedItem
+fn item_at(items: &Items<'_>, rests: &[Rest], parts: &Parts, number: u32) -> ExpectedItem
+    requires { (item : ℕ) → has_part parts.now item ≡ is_part rests.now (length items.now.spans.now) item }
     ensures { fact_of result ≡ item_numbered (facts_in items.now rests.now) number }
 {
     let span = span_at(items.spans, number);
     let rule = items.rules.get(number as usize).copied();
+    let wording = item_wording(items, rests, parts, number);
     ExpectedItem {
         span,
         rule,
-        is_named: is_named_after(rests, rule, number) && is_class_or_dot(items.kinds, number),
+        wording,
+    }
+}
+
+// Returns how an item is written.
+fn item_wording(items: &Items<'_>, rests: &[Rest], parts: &Parts, number: u32) -> Wording
+    requires { (item : ℕ) → has_part parts.now item ≡ is_part rests.now (length items.now.spans.now) item }
+    ensures { result ≡ item_wording (facts_in items.now rests.now) number }
+{
+    if parts.contains(number) {
+        return Wording::LeftOut;
+    }
+    let rule = items.rules.get(number as usize).copied();
+    if is_class_or_dot(items.kinds, number) && is_named_after(rests, rule, number) {
+        Wording::RuleName
+    } else {
+        Wording::Spelling
     }
 }
 
@@ -91,8 +108,8 @@ fn is_named_after(rests: &[Rest], rule: Option<u32>, number: u32) -> bool
     }
 }
 
-/// Returns whether the item with a number is a class or a dot, given the kinds of items.
-pub(crate) fn is_class_or_dot(kinds: &[ItemKind], number: u32) -> bool
+// Returns whether the item with a number is a class or a dot, given the kinds of items.
+fn is_class_or_dot(kinds: &[ItemKind], number: u32) -> bool
     ensures { result ≡ is_class_or_dot kinds.now number }
 {
     match kinds.get(number as usize) {
@@ -167,7 +184,7 @@ pub(crate) fn unnamed_items(alloc: Global, spans: &[Span]) -> Result<Vec<Expecte
         list.push(ExpectedItem {
             span: *span,
             rule: None,
-            is_named: false,
+            wording: Wording::Spelling,
         })?;
     }
     Ok(list)

@@ -1,6 +1,6 @@
 //! Where texts don't match a grammar file.
-ghost use Rattle.std.specs.Prelude.{◌≡◌, ◌^◌, ◌≤◌, ◌<◌, ◌↔◌, ℕ, false, List, IfOk, IfSome, IsErrOf, None, OnOk, Some};
-ghost use Rattle.std.specs.Prelude.{◌++◌, length, map, option_map, take};
+ghost use Rattle.std.specs.Prelude.{◌≡◌, ◌^◌, ◌≤◌, ◌<◌, ◌↔◌, ◌+◌, ℕ, false, true, List, [], IfOk, IfSome, IsErrOf};
+ghost use Rattle.std.specs.Prelude.{◌++◌, None, OnOk, Some, length, map, option_map};
 ghost use Rattle.peg_blame.specs.BlameCalls.{is_called};
 ghost use Rattle.peg_blame.specs.BlameOutcome.{IsBlameOutcome};
 ghost use Rattle.peg_blame.specs.BlameParser.{IsBlameParserOf};
@@ -14,25 +14,28 @@ ghost use Rattle.peg_semantics.specs.Rules.{Rule};
 ghost use Rattle.peg_semantics.specs.Starts.{start_name};
 ghost use Rattle.peg_tree.specs.Selected.{has_rule};
 ghost use Rattle.peg_blame.specs.InText.{IsInText};
-ghost use Rattle.peg_diagnostics.specs.ItemKinds.{kinds_of_items};
-ghost use Rattle.peg_diagnostics.specs.Items.{rules_of_items};
+ghost use Rattle.peg_bytes.specs.Extent.{extent};
+ghost use Rattle.peg_grammar.specs.GrammarRules.{rules_in};
+ghost use Rattle.std.specs.List.{prefix_len};
 ghost use Rattle.peg_explain.specs.Explanations.{AreRestsBy, ExplainingAnswersWithin, ExplainingStaysWithin};
 ghost use Rattle.peg_explain.specs.Explanations.{ExplainingTakesMoreSteps};
 ghost use Rattle.peg_explain.specs.Explanations.{HasMismatch, IsExplanation, IsMismatchIn, IsMismatchMessage, ItemFacts};
-ghost use Rattle.peg_explain.specs.Explanations.{expected_items, fact_of, message_item_of, note_text, rule_name};
-ghost use Rattle.peg_explain.specs.Explanations.{shown_item};
+ghost use Rattle.peg_explain.specs.Explanations.{defined_extent, expected_items, fact_of, facts_by_blame};
+ghost use Rattle.peg_explain.specs.Explanations.{in_file_order, is_before, message_item_of, note_text, rule_item, rule_name};
+ghost use Rattle.peg_explain.specs.Explanations.{shown_item, worded_item};
+ghost use Rattle.peg_explain.specs.Names.{outermost_rules};
 ghost use Rattle.peg_explain.specs.Namings.{AreItemsFor};
-ghost use Rattle.peg_explain.specs.Reports.{is_whole_match, named_position};
+ghost use Rattle.peg_explain.specs.Reports.{are_items_expected, is_whole_match, named_position};
 
 use crate::blames::{Blames, compile_blames};
-use crate::expected::{
-    Items, MAX_NAMED, first_numbers, items_of_failure, spans_of_terminals, unnamed_items,
-};
-use crate::mismatch::{Analysis, ExpectedItem, Mismatch};
-use crate::names::{Naming, Rest};
+use crate::expected::{Items, items_of_failure, spans_of_terminals, unnamed_items};
+use crate::mismatch::{Analysis, ExpectedItem, Mismatch, Wording};
+use crate::names::{Naming, Rest, outermost_rules};
 use crate::outcomes::{are_items_expected, is_end_expected, is_whole_match, named_position};
 use crate::style::ItemStyle;
 use peg_blame::BlameParser;
+use peg_bytes::Span;
+use peg_grammar::Grammar;
 use peg_messages::{Failure, Item};
 use peg_parser::{Answer, ParseFault, ParseOptions, Parser};
 use peg_tree::{Outcome, RuleSet};
@@ -98,11 +101,12 @@ impl<'a> Explainer<'a> {
     ///
     /// The message names the furthest failure outside predicates: the greatest offset where an item failed, and the
     /// items that failed there. An item is a terminal or a predicate outside predicates; it fails at its own start. The
-    /// end of the text is expected, too, if the match ended at that offset, and alone if it ended after it.
+    /// end of the text is expected, too, if the match ended at that offset, and alone if it ended after it. A rule that
+    /// is called at that offset and fails at once stands for its items.
     ///
     /// The errors are those of `Parser::parse`. The steps are those of the diagnostic grammar, if it is within the
     /// limits. Of many items the first 65,536 are looked at. A text that doesn't match is parsed again if the style uses
-    /// names.
+    /// names, and the rest of it from each of the first 64 rules that are called at that offset.
     ///
     /// # Example
     ///
@@ -161,7 +165,8 @@ impl<'a> Explainer<'a> {
             → IfOk result (λ mismatch. IfSome (start_name rules (start_named options.now))
             (λ start. IsMismatchIn rules self.now.style text.now start mismatch)) }
         ensures in_text { IfOk result (λ found. IfSome found (λ mismatch. mismatch.at ≤ length text.now)) }
-        ensures few { IfOk result (λ found. IfSome found (λ mismatch. length mismatch.expected.items < 2 ^ 32)) }
+        ensures few { IfOk result (λ found. IfSome found (λ mismatch.
+            length mismatch.rules.items + length mismatch.expected.items < 2 ^ 32)) }
         ensures limited { (file : List ℕ) (rules : List Rule) → IsExplainerOf file rules self.now
             → IsErrOf result ParseFault.StepLimit
             → ExplainingTakesMoreSteps rules text.now (start_named options.now) options.now.steps }
@@ -174,36 +179,38 @@ impl<'a> Explainer<'a> {
         match self.blames.get() {
             Some(blames) => {
                 let answer = blames.blame(alloc, text, options)?;
-                let expected = self.items_by_blame(alloc, blames, text, options, &answer)?;
+                let expected = self.expected_by_blame(alloc, blames, text, options, &answer)?;
                 Ok(mismatch_in(text, &answer.outcome, expected, Analysis::Items))
             }
             None => {
                 let answer = self.parser.parse(alloc, text, options)?;
                 let spans = spans_of_terminals(alloc, self.parser, &answer.outcome)?;
-                let expected = unnamed_items(alloc, &spans)?;
+                let items = unnamed_items(alloc, &spans)?;
+                let rules = Vec::new(alloc);
+                let expected = Expected { items, rules };
                 Ok(mismatch_in(text, &answer.outcome, expected, Analysis::Tests))
             }
         }
     }
 
-    // Returns the items that are expected by the answer of a blame; none if the text matches as a whole.
-    fn items_by_blame(
+    // Returns what is expected by the answer of a blame; nothing if the text matches as a whole.
+    fn expected_by_blame(
         &self,
         alloc: Global,
         blames: &BlameParser,
         text: &[u8],
         options: &ParseOptions<'_>,
         answer: &Answer,
-    ) -> Result<Vec<ExpectedItem>, ParseFault>
+    ) -> Result<Expected, ParseFault>
         requires short { length text.now ≤ max_text_bytes }
         requires in_text { IsInText text.now answer.now.outcome }
         ensures items { (rules : List Rule) (start : List ℕ) → IsBlameParserOf rules blames.now
             → parser_rules self.now.parser.now ≡ rules
             → start_name rules (start_named options.now) ≡ Some start
             → (is : IsBlameOutcome rules text.now start answer.now.outcome)
-            → IfOk result (λ items. AreItemsFor rules self.now.style text.now answer.now.outcome
-            is.blame.calls (map fact_of items.items)) }
-        ensures few { IfOk result (λ items. length items.items < 2 ^ 32) }
+            → IfOk result (λ expected. AreItemsFor rules self.now.style text.now start answer.now.outcome
+            is.blame.calls (map fact_of expected.items.items) expected.rules.items) }
+        ensures few { IfOk result (λ expected. length expected.rules.items + length expected.items.items < 2 ^ 32) }
         ensures no_start { (rules : List Rule) → IsBlameParserOf rules blames.now
             → parser_rules self.now.parser.now ≡ rules
             → IsErrOf result ParseFault.NoSuchStart → start_name rules (start_named options.now) ≡ None }
@@ -217,23 +224,19 @@ impl<'a> Explainer<'a> {
     {
         let outcome = &answer.outcome;
         if is_whole_match(outcome, text.len()) || !are_items_expected(outcome) {
-            return Ok(Vec::new(alloc));
+            return Ok(nothing_expected(alloc));
         }
-        let items = Items {
-            spans: blames.items(),
-            rules: blames.item_rules(),
-            kinds: blames.item_kinds(),
-        };
-        let rests = self.rests_for(alloc, blames, &items, text, options, answer)?;
-        Ok(items_of_failure(alloc, &items, &rests, outcome)?)
+        let rests = self.rests_for(alloc, blames, text, options, answer)?;
+        let rules = outermost_rules(alloc, &rests)?;
+        let items = items_by_blame(alloc, blames, &rests, outcome)?;
+        Ok(Expected { items, rules })
     }
 
-    // Returns the outcomes of the rest of the text by which items are named at the position of the message.
+    // Returns the rests of the text by which the message names rules.
     fn rests_for(
         &self,
         alloc: Global,
         blames: &BlameParser,
-        items: &Items<'_>,
         text: &[u8],
         options: &ParseOptions<'_>,
         answer: &Answer,
@@ -242,11 +245,10 @@ impl<'a> Explainer<'a> {
         requires in_text { IsInText text.now answer.now.outcome }
         ensures rests { (rules : List Rule) (start : List ℕ) (blame : Record) → IsBlameParserOf rules blames.now
             → parser_rules self.now.parser.now ≡ rules
-            → items.now.rules.now ≡ rules_of_items rules → items.now.kinds.now ≡ kinds_of_items rules
             → start_name rules (start_named options.now) ≡ Some start → StartHasBlame rules text.now start blame
-            → IfOk result (λ rests. AreRestsBy self.now.style.uses_names rules text.now blame.calls
-            (named_position answer.now.outcome.result answer.now.outcome.far)
-            (take 64 answer.now.outcome.expected.items) rests.items) }
+            → IfOk result (λ rests. AreRestsBy self.now.style.uses_names rules text.now start blame.calls
+            (named_position answer.now.outcome.result answer.now.outcome.far) rests.items) }
+        ensures few { IfOk result (λ rests. length rests.items ≤ 64) }
         ensures no_start { (rules : List Rule) → IsBlameParserOf rules blames.now
             → parser_rules self.now.parser.now ≡ rules
             → IsErrOf result ParseFault.NoSuchStart → start_name rules (start_named options.now) ≡ None }
@@ -263,15 +265,16 @@ impl<'a> Explainer<'a> {
         }
         let at = named_position(&answer.outcome);
         let called = called_rules(alloc, blames, text, options, answer.steps, at)?;
+        let grammar = self.parser.grammar();
         let naming = Naming {
             blames,
-            grammar: self.parser.grammar(),
-            items: *items,
+            grammar,
+            start: start_of(grammar, options),
             called: &called,
             rest: &text[at as usize..],
             memo: options.memo,
         };
-        naming.rests(alloc, first_numbers(&answer.outcome.expected, MAX_NAMED))
+        naming.rests(alloc)
     }
 
     /// Returns the message for a mismatch in a text. The name begins the message. The only error is a failed
@@ -285,12 +288,12 @@ impl<'a> Explainer<'a> {
     ) -> Result<Vec<u8>, AllocError>
         requires short { length text.now ≤ max_text_bytes }
         requires in_text { mismatch.now.at ≤ length text.now }
-        requires few { length mismatch.now.expected.items < 2 ^ 32 }
+        requires few { length mismatch.now.rules.items + length mismatch.now.expected.items < 2 ^ 32 }
         ensures { (file : List ℕ) (rules : List Rule) → IsExplainerOf file rules self.now
             → IfOk result (λ message. IsMismatchMessage file rules self.now.style name.now text.now mismatch.now
             message.items) }
     {
-        let items = self.message_items(alloc, &mismatch.expected)?;
+        let items = self.message_items(alloc, &mismatch.rules, &mismatch.expected)?;
         let failure = Failure {
             name,
             text,
@@ -305,21 +308,49 @@ impl<'a> Explainer<'a> {
         Ok(message)
     }
 
-    // Returns items as a message has them.
+    // Returns rules and items as a message has them, in the order of the grammar file.
     fn message_items(
         &self,
         alloc: Global,
+        rules: &[u32],
         expected: &[ExpectedItem],
     ) -> Result<Vec<Item<'_>>, AllocError>
         ensures items { IfOk result (λ items. map message_item_of items.items
-            ≡ map (shown_item (parser_rules self.now.parser.now) self.now.style) expected.now) }
-        ensures count { IfOk result (λ items. length items.items ≡ length expected.now) }
+            ≡ in_file_order (parser_rules self.now.parser.now) self.now.style rules.now expected.now) }
     {
         let mut items = Vec::new(alloc);
+        let mut others = rules;
         'expected: for item in expected {
+            let (before, after) = others.split_at(rules_before(others, item.rule));
+            self.add_rules(before, &mut items)?;
             items.push(self.message_item(item))?;
+            others = after;
         }
+        self.add_rules(others, &mut items)?;
         Ok(items)
+    }
+
+    // Adds rules as a message has them.
+    fn add_rules<'s>(&'s self, rules: &[u32], items: &mut Vec<Item<'s>>) -> Result<(), AllocError>
+        ensures { OnOk result (map message_item_of items.new.items
+            ≡ map message_item_of items.old.items ++ map (rule_item (parser_rules self.now.parser.now)) rules.now) }
+    {
+        'rules: for rule in rules {
+            items.push(self.rule_item(*rule))?;
+        }
+        Ok(())
+    }
+
+    // Returns a rule as a message has it.
+    fn rule_item(&self, rule: u32) -> Item<'_>
+        ensures { message_item_of result ≡ rule_item (parser_rules self.now.parser.now) rule }
+    {
+        Item {
+            span: self.name_span(rule),
+            rule: None,
+            name: self.rule_name(Some(rule)),
+            is_left_out: false,
+        }
     }
 
     // Returns an item as a message has it.
@@ -327,12 +358,7 @@ impl<'a> Explainer<'a> {
         ensures { message_item_of result ≡ shown_item (parser_rules self.now.parser.now) self.now.style item.now }
     {
         let rule = self.rule_name(item.rule);
-        let shows_rule = self.style.shows_rules && !item.is_named;
-        Item {
-            span: item.span,
-            rule: if shows_rule { rule } else { None },
-            name: if item.is_named { rule } else { None },
-        }
+        worded_item(item.wording, item.span, rule, self.style.shows_rules)
     }
 
     // Returns the name of the rule with a number, if there is one.
@@ -344,6 +370,119 @@ impl<'a> Explainer<'a> {
             Some(number) if number < grammar.rules() => Some(grammar.rule_name(number)),
             _ => None,
         }
+    }
+
+    // Returns the span of the name of a rule, or an empty one if there is no rule with this number.
+    fn name_span(&self, rule: u32) -> Span
+        ensures { extent result ≡ defined_extent (parser_rules self.now.parser.now) rule }
+    {
+        let grammar = self.parser.grammar();
+        if rule < grammar.rules() {
+            grammar.name_span(rule)
+        } else {
+            Span::new(0, 0)
+        }
+    }
+}
+
+// What is expected: items, and the rules that are named for some of them.
+#[derive(Drop)]
+struct Expected {
+    items: Vec<ExpectedItem>,
+    rules: Vec<u32>,
+}
+
+// Returns that nothing is expected.
+fn nothing_expected(alloc: Global) -> Expected
+    ensures items { result.items.items ≡ [] }
+    ensures rules { result.rules.items ≡ [] }
+{
+    Expected {
+        items: Vec::new(alloc),
+        rules: Vec::new(alloc),
+    }
+}
+
+// Returns the items that are expected by the outcome of a blame.
+fn items_by_blame(
+    alloc: Global,
+    blames: &BlameParser,
+    rests: &[Rest],
+    outcome: &Outcome,
+) -> Result<Vec<ExpectedItem>, AllocError>
+    requires { true ≡ are_items_expected outcome.now.result outcome.now.far }
+    ensures items { IfOk result (λ items. (rules : List Rule) → IsBlameParserOf rules blames.now
+        → map fact_of items.items ≡ expected_items (facts_by_blame rules rests.now) outcome.now) }
+    ensures few { IfOk result (λ items. length items.items ≤ 65536) }
+{
+    let items = Items {
+        spans: blames.items(),
+        rules: blames.item_rules(),
+        kinds: blames.item_kinds(),
+    };
+    items_of_failure(alloc, &items, rests, outcome)
+}
+
+// Returns the name of the start rule.
+fn start_of<'g>(grammar: &'g Grammar, options: &ParseOptions<'g>) -> &'g str
+    ensures { (start : List ℕ) → start_name (rules_in grammar.now) (start_named options.now) ≡ Some start
+        → result.now ≡ start }
+{
+    let count = grammar.rules();
+    prove!(0 < count);
+    match options.start {
+        Some(name) => name,
+        None => grammar.rule_name(0),
+    }
+}
+
+// Returns how many of these rules come before an item of a rule.
+fn rules_before(rules: &[u32], own: Option<u32>) -> usize
+    ensures count { result ≡ prefix_len (is_before own) rules.now }
+    ensures within { result ≤ length rules.now }
+{
+    'each: for count in 0..rules.len() {
+        if !is_before(own, rules[count]) {
+            return count;
+        }
+    }
+    rules.len()
+}
+
+// Returns whether a rule has no greater number than the rule of an item, if that is known.
+fn is_before(own: Option<u32>, rule: u32) -> bool
+    ensures { result ≡ is_before own rule }
+{
+    match own {
+        Some(own) => rule <= own,
+        None => false,
+    }
+}
+
+// Returns an item in a wording.
+fn worded_item(wording: Wording, span: Span, rule: Option<&str>, shows_rule: bool) -> Item<'_>
+    ensures { message_item_of result
+        ≡ worded_item wording (extent span) (option_map (λ name. name.now) rule.entry) shows_rule }
+{
+    match wording {
+        Wording::Spelling => Item {
+            span,
+            rule: if shows_rule { rule } else { None },
+            name: None,
+            is_left_out: false,
+        },
+        Wording::RuleName => Item {
+            span,
+            rule: None,
+            name: rule,
+            is_left_out: false,
+        },
+        Wording::LeftOut => Item {
+            span,
+            rule: None,
+            name: None,
+            is_left_out: true,
+        },
     }
 }
 
@@ -379,28 +518,32 @@ fn called_rules(
     }
 }
 
-// Returns the mismatch of an outcome, where these items are expected.
+// Returns the mismatch of an outcome, where this is expected.
 fn mismatch_in(
     text: &[u8],
     outcome: &Outcome,
-    expected: Vec<ExpectedItem>,
+    expected: Expected,
     analysis: Analysis,
 ) -> Option<Mismatch>
     requires in_text { IsInText text.now outcome.now }
-    requires few { length expected.items < 2 ^ 32 }
+    requires few { length expected.rules.items + length expected.items.items < 2 ^ 32 }
     ensures mismatch { (facts : ItemFacts) → facts.analysis ≡ analysis
+        → expected.rules.items ≡ outermost_rules facts.rests
         → (is_whole_match outcome.now.result (length text.now) ≡ false
-        → map fact_of expected.items ≡ expected_items facts outcome.now)
+        → map fact_of expected.items.items ≡ expected_items facts outcome.now)
         → HasMismatch facts text.now outcome.now result }
     ensures in_text { IfSome result (λ mismatch. mismatch.at ≤ length text.now) }
-    ensures few { IfSome result (λ mismatch. length mismatch.expected.items < 2 ^ 32) }
+    ensures few { IfSome result (λ mismatch.
+        length mismatch.rules.items + length mismatch.expected.items < 2 ^ 32) }
 {
     if is_whole_match(outcome, text.len()) {
         return None;
     }
+    let Expected { items, rules } = expected;
     Some(Mismatch {
         at: named_position(outcome),
-        expected,
+        expected: items,
+        rules,
         is_end_expected: is_end_expected(outcome),
         analysis,
     })

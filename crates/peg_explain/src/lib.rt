@@ -7,11 +7,12 @@ mod explainer;
 mod mismatch;
 mod names;
 mod outcomes;
+mod parts;
 mod refusals;
 mod style;
 
 pub use blames::compile_blames;
 pub use explainer::Explainer;
-pub use mismatch::{Analysis, ExpectedItem, Mismatch};
+pub use mismatch::{Analysis, ExpectedItem, Mismatch, Wording};
 pub use refusals::refusal_message;
 pub use style::ItemStyle;

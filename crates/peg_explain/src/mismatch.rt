@@ -8,6 +8,9 @@ pub struct Mismatch {
     pub at: u32,
     /// The items that are expected there, in ascending order. Of many items these are the first 65,536.
     pub expected: Vec<ExpectedItem>,
+    /// The rules that a message names for all items that are a part of them, by number, in ascending order. A rule is
+    /// named if it is called at the offset and fails there at once, unless it is the start or inside another such rule.
+    pub rules: Vec<u32>,
     /// Whether the end of the text is expected there, too.
     pub is_end_expected: bool,
     /// The failures that were analysed.
@@ -30,6 +33,17 @@ pub struct ExpectedItem {
     pub span: Span,
     /// The number of the rule that the item is in. It isn't known if the diagnostic grammar is over a limit.
     pub rule: Option<u32>,
-    /// Whether a message writes the item as the name of its rule.
-    pub is_named: bool,
+    /// How a message writes the item.
+    pub wording: Wording,
+}
+
+/// How a message writes an expected item.
+#[derive(Clone, Copy, Debug, PartialEq, Eq)]
+pub enum Wording {
+    /// By its bytes in the grammar file.
+    Spelling,
+    /// As the name of its rule.
+    RuleName,
+    /// Not at all, since it is a part of a rule that the message names.
+    LeftOut,
 }

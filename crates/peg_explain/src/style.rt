@@ -3,8 +3,7 @@
 /// How a message writes the items that are expected.
 #[derive(Clone, Copy, Debug, PartialEq, Eq)]
 pub struct ItemStyle {
-    /// Whether a class or dot is written as the name of its rule, if that rule is called at the offset of the mismatch,
-    /// outside predicates.
+    /// Whether rules are named that are called at the offset of the mismatch, outside predicates, and fail there at once.
     pub uses_names: bool,
     /// Whether each item that isn't written as a name is followed by its rule.
     pub shows_rules: bool,

@@ -46,6 +46,7 @@ fn items_of_no_grammar_are_written(rt: HostRuntime) -> Result<(), Fail> {
         span: Span::new(0, 100),
         rule: None,
         name: None,
+        is_left_out: false,
     };
     let named = Item {
         name: Some("Number"),

@@ -40,20 +40,20 @@ character_text character (byte ∷ rest) =
 abbrev pub is_in_word : ℕ → Bool
 is_in_word byte = not (is_blank byte)
 
--- the length of the word at the start of a text, in at most `room` bytes, without a part of a character at its end
-abbrev pub word_len : (rest : List ℕ) → (room : ℕ) → ℕ
-word_len rest room = unsplit rest (prefix_len is_in_word (slice_range rest 0 room))
+-- the length of the word at the start of a text, in at most `most` bytes, without a part of a character at its end
+abbrev pub word_len : (rest : List ℕ) → (most : ℕ) → ℕ
+word_len rest most = unsplit rest (prefix_len is_in_word (slice_range rest 0 most))
 
 -- a word in single quotes, if it is longer than the first character, otherwise that character
-abbrev pub part_text : (rest : List ℕ) → (room : ℕ) → List ℕ
-part_text rest room =
-    if nat_lt (character_len rest) (word_len rest room)
-    then codes "'" ++ shown Quoted (take (word_len rest room) rest) ++ codes "'"
+abbrev pub part_text : (rest : List ℕ) → (most : ℕ) → List ℕ
+part_text rest most =
+    if nat_lt (character_len rest) (word_len rest most)
+    then codes "'" ++ shown Quoted (take (word_len rest most) rest) ++ codes "'"
     else character_text (take (found_len rest) rest) (invisible_name (take (found_len rest) rest))
 
--- what is found: a part of the text of at most `room` bytes or one character, or the end
-abbrev pub found_text : (text : List ℕ) → (at room : ℕ) → List ℕ
-found_text text at room = if nat_lt at (length text) then part_text (drop at text) room else codes "the end"
+-- what is found: a part of the text of at most `most` bytes or one character, or the end
+abbrev pub found_text : (text : List ℕ) → (at most : ℕ) → List ℕ
+found_text text at most = if nat_lt at (length text) then part_text (drop at text) most else codes "the end"
 
 -- ---- how long a word is
 
@@ -64,17 +64,17 @@ begins_like first (byte ∷ rest) = to_ascii_lowercase byte == to_ascii_lowercas
 
 -- the number of bytes of a literal, as its spelling has them between its quotes, if it begins like a text with this
 -- first byte, otherwise 0
-abbrev pub literal_room : (first : ℕ) → (spelling : List ℕ) → ℕ
-literal_room first [] = 0
-literal_room first (quote ∷ inside) =
+abbrev pub literal_length : (first : ℕ) → (spelling : List ℕ) → ℕ
+literal_length first [] = 0
+literal_length first (quote ∷ inside) =
     if (quote == 39 || quote == 34) && begins_like first inside then (many (quoted_char quote) inside).length else 0
 
 -- the same for an item; one with a name isn't written as a literal
-abbrev pub item_room : (grammar : List ℕ) → (first : ℕ) → Item → ℕ
-item_room grammar first item =
-    if is_some item.name then 0 else literal_room first (span_bytes grammar (extent item.span))
+abbrev pub item_length : (grammar : List ℕ) → (first : ℕ) → Item → ℕ
+item_length grammar first item =
+    if is_some item.name then 0 else literal_length first (span_bytes grammar (extent item.span))
 
 -- as many bytes as the longest literal among the items that begins like the text
-abbrev pub longest_room : (grammar : List ℕ) → (first : ℕ) → List Item → ℕ
-longest_room grammar first [] = 0
-longest_room grammar first (item ∷ items) = max (item_room grammar first item) (longest_room grammar first items)
+abbrev pub longest_literal : (grammar : List ℕ) → (first : ℕ) → List Item → ℕ
+longest_literal grammar first [] = 0
+longest_literal grammar first (item ∷ items) = max (item_length grammar first item) (longest_literal grammar first items)

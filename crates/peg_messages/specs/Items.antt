@@ -1,6 +1,6 @@
 -- What is expected at a position, as it is written in a message.
-use Rattle.std.specs.Prelude.{ℕ, ◌==◌, Bool, false, true, if◌then◌else◌, List, [], ◌∷◌, ◌++◌, Option, None, Some}
-use Rattle.std.specs.Prelude.{codes, slice_range}
+use Rattle.std.specs.Prelude.{ℕ, ◌==◌, Bool, false, true, not, ◌&&◌, if◌then◌else◌, List, [], ◌∷◌, ◌++◌}
+use Rattle.std.specs.Prelude.{Option, None, Some, codes, slice_range}
 use Rattle.std.specs.Option.{option_map}
 use Rattle.std.specs.Str.{bytes_eq}
 use Rattle.peg_bytes.specs.Extent.{Extent, extent}
@@ -48,6 +48,10 @@ is_group End End = true
 is_group Plain Plain = true
 is_group Other Other = true
 is_group a b = false
+
+-- an item is written among those of a group, unless it is left out
+abbrev pub is_in_group : (grammar : List ℕ) → (group : ItemGroup) → Item → Bool
+is_in_group grammar group item = not item.is_left_out && is_group (item_group grammar item) group
 
 -- an item by its name if it has one, otherwise by its bytes in the grammar file
 abbrev pub named_text : (spelling : List ℕ) → (name : Option (List ℕ)) → List ℕ

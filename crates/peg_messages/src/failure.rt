@@ -4,7 +4,7 @@ ghost use Rattle.peg_bytes.specs.Place.{max_offset};
 ghost use Rattle.peg_messages.specs.Ends.{end_texts};
 ghost use Rattle.peg_messages.specs.Listings.{IsListing, bytes_of_each};
 
-use crate::found::{longest_room, write_found};
+use crate::found::{longest_literal, write_found};
 use crate::items::{Item, ItemGroup, is_in_group, item_text};
 use crate::listing::Listing;
 use crate::numbers::write_place;
@@ -28,22 +28,23 @@ pub struct Failure<'a> {
 }
 
 impl Failure<'_> {
-    ghost use Rattle.peg_messages.specs.Failures.{expected_texts, failure_message, found_room, group_texts};
+    ghost use Rattle.peg_messages.specs.Failures.{expected_texts, failure_message, found_bytes, group_texts};
     ghost use Rattle.peg_messages.specs.Listing.{listed};
     ghost use Rattle.peg_messages.specs.Listings.{IsListed};
 
     /// Appends the message for a failure: `NAME:LINE:COLUMN: expected A, B or C, found 'D'`, then the line of the
     /// position and a caret below the position. Each line ends with LF.
     ///
-    /// An item is written as in the grammar file. A dot is written `any byte`. The predicate `!e` is written `something
+    /// An item that isn't left out is written as in the grammar file. A dot is written `any byte`. The predicate `!e` is written `something
     /// other than e`, after all others. `!.` is `the end`, like the end of the text if it is expected. The end is
     /// written first, so that no number of other items hides it. Equal items are written once, and at most eight are
     /// written; then `N more` counts the others. An item is compared only with the first 64 different ones. Further
     /// items are counted each.
     ///
     /// If literals are expected that begin with the same letter as the text, in either case, the text is shown up to
-    /// the length of the longest one, or up to a blank. Otherwise one character is shown. A character that can't be
-    /// seen, or that looks like one of ASCII, has its name, as in `'\xC2\xA0' (no-break space)`.
+    /// the length of the longest one, or up to a blank. Literals that are left out count, too. Otherwise one character
+    /// is shown. A character that can't be seen, or that looks like one of ASCII, has its name, as in
+    /// `'\xC2\xA0' (no-break space)`.
     ///
     /// Bytes that are neither printable ASCII nor UTF-8 are written as escapes of the notation. At most 120 bytes of
     /// the line are shown, the first of them 80 before the position. A tab of the line stays a tab, and so does the blank
@@ -56,7 +57,7 @@ impl Failure<'_> {
     ///
     /// ```
     /// let span = Span::new(5, 8);
-    /// let expected = [Item { span, rule: None, name: None }];
+    /// let expected = [Item { span, rule: None, name: None, is_left_out: false }];
     /// let failure = Failure {
     ///     name: b"ab.txt",
     ///     text: b"xb",
@@ -91,18 +92,18 @@ impl Failure<'_> {
         message.extend_from_slice(b"expected ")?;
         self.write_expected(alloc, &mut message)?;
         message.extend_from_slice(b", found ")?;
-        write_found(self.text, self.at, self.found_room(), &mut message)?;
+        write_found(self.text, self.at, self.found_bytes(), &mut message)?;
         message.extend_from_slice(b"\n")?;
         write_source(self.text, self.at, &mut message)?;
         Ok(message)
     }
 
     // Returns how many bytes of a word are shown as found.
-    fn found_room(&self) -> usize
-        ensures { result ≡ found_room self.now }
+    fn found_bytes(&self) -> usize
+        ensures { result ≡ found_bytes self.now }
     {
         match self.text.get(self.at as usize) {
-            Some(first) => longest_room(self.grammar, *first, self.expected),
+            Some(first) => longest_literal(self.grammar, *first, self.expected),
             None => 0,
         }
     }

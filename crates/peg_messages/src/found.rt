@@ -2,7 +2,7 @@
 ghost use Rattle.std.specs.Prelude.{◌≡◌, ◌==◌, ◌||◌, ◌<◌, ◌≤◌, ◌++◌, OnOk, codes, length};
 ghost use Rattle.std.specs.List.{flat_map, prefix_len};
 ghost use Rattle.peg_messages.specs.Found.{begins_like, character_text, found_len, found_text, is_in_word};
-ghost use Rattle.peg_messages.specs.Found.{item_room, literal_room, longest_room, name_text, part_text};
+ghost use Rattle.peg_messages.specs.Found.{item_length, literal_length, longest_literal, name_text, part_text};
 ghost use Rattle.peg_messages.specs.Found.{word_len};
 ghost use Rattle.peg_messages.specs.Shown.{escape_text, shown};
 ghost use Rattle.peg_messages.specs.declared.shown.Style.TheVariants.{Quoted};
@@ -16,29 +16,29 @@ use crate::source::{part_of, unsplit};
 use peg_lexer::chars_before;
 use std::alloc::AllocError;
 
-/// Writes what is found at a position of a text: the word there, if it is longer than one character, of at most `room`
+/// Writes what is found at a position of a text: the word there, if it is longer than one character, of at most `most`
 /// bytes; otherwise the character, or that the text ends there. Takes time linear in what is written.
 pub(crate) fn write_found(
     text: &[u8],
     at: u32,
-    room: usize,
+    most: usize,
     out: &mut Vec<u8>,
 ) -> Result<(), AllocError>
-    ensures { OnOk result (out.new.items ≡ out.old.items ++ found_text text.now at room) }
+    ensures { OnOk result (out.new.items ≡ out.old.items ++ found_text text.now at most) }
 {
     let at = at as usize;
     if at >= text.len() {
         return out.extend_from_slice(b"the end");
     }
-    write_part(&text[at..], room, out)
+    write_part(&text[at..], most, out)
 }
 
 // Writes the word or the character at the start of a text.
-fn write_part(rest: &[u8], room: usize, out: &mut Vec<u8>) -> Result<(), AllocError>
+fn write_part(rest: &[u8], most: usize, out: &mut Vec<u8>) -> Result<(), AllocError>
     requires { 0 < length rest.now }
-    ensures { OnOk result (out.new.items ≡ out.old.items ++ part_text rest.now room) }
+    ensures { OnOk result (out.new.items ≡ out.old.items ++ part_text rest.now most) }
 {
-    let word = word_len(rest, room);
+    let word = word_len(rest, most);
     if character_len(rest) < word {
         return write_word(&rest[..word], out);
     }
@@ -110,12 +110,12 @@ fn found_len(rest: &[u8]) -> usize
     }
 }
 
-// Returns the length of the word at the start of a text, in at most `room` bytes.
-fn word_len(rest: &[u8], room: usize) -> usize
-    ensures value { result ≡ word_len rest.now room }
+// Returns the length of the word at the start of a text, in at most `most` bytes.
+fn word_len(rest: &[u8], most: usize) -> usize
+    ensures value { result ≡ word_len rest.now most }
     ensures within { result ≤ length rest.now }
 {
-    unsplit(rest, bytes_of_word(part_of(rest, 0, room)))
+    unsplit(rest, bytes_of_word(part_of(rest, 0, most)))
 }
 
 // Returns the number of bytes before the first blank.
@@ -133,29 +133,29 @@ fn bytes_of_word(bytes: &[u8]) -> usize
 
 /// Returns the number of bytes of the longest literal among the items that begins like the text. Takes time linear in
 /// the spans of the items.
-pub(crate) fn longest_room(grammar: &[u8], first: u8, items: &[Item<'_>]) -> usize
-    ensures { result ≡ longest_room grammar.now first items.now }
+pub(crate) fn longest_literal(grammar: &[u8], first: u8, items: &[Item<'_>]) -> usize
+    ensures { result ≡ longest_literal grammar.now first items.now }
 {
-    let mut room = 0;
+    let mut longest = 0;
     'items: for item in items {
-        room = room.max(item_room(grammar, first, item));
+        longest = longest.max(item_length(grammar, first, item));
     }
-    room
+    longest
 }
 
 // Returns the number of bytes of an item, if it is written as a literal that begins with this byte, otherwise 0.
-fn item_room(grammar: &[u8], first: u8, item: &Item<'_>) -> usize
-    ensures { result ≡ item_room grammar.now first item.now }
+fn item_length(grammar: &[u8], first: u8, item: &Item<'_>) -> usize
+    ensures { result ≡ item_length grammar.now first item.now }
 {
     match item.name {
         Some(_) => 0,
-        None => literal_room(first, span_bytes(grammar, item.span)),
+        None => literal_length(first, span_bytes(grammar, item.span)),
     }
 }
 
 // Returns the number of bytes in the quotes of a literal that begins with this byte, otherwise 0.
-fn literal_room(first: u8, spelling: &[u8]) -> usize
-    ensures { result ≡ literal_room first spelling.now }
+fn literal_length(first: u8, spelling: &[u8]) -> usize
+    ensures { result ≡ literal_length first spelling.now }
 {
     match spelling {
         [quote, inside @ ..] if is_quote(*quote) && begins_like(first, inside) => {

@@ -2,7 +2,7 @@
 ghost use Rattle.std.specs.Prelude.{◌≡◌, ◌++◌, IfOk, OnOk};
 ghost use Rattle.std.specs.Option.{option_map};
 ghost use Rattle.peg_bytes.specs.Extent.{extent};
-ghost use Rattle.peg_messages.specs.Items.{is_group, item_group, item_text, named_text, negated_group};
+ghost use Rattle.peg_messages.specs.Items.{is_group, is_in_group, item_text, named_text, negated_group};
 ghost use Rattle.peg_messages.specs.Items.{negated_text, plain_text, rule_text, span_bytes, spelling_group};
 ghost use Rattle.peg_messages.specs.Items.{spelling_text};
 ghost use Rattle.peg_messages.specs.Shown.{shown};
@@ -23,6 +23,8 @@ pub struct Item<'a> {
     pub rule: Option<&'a str>,
     /// A name that is written in place of the expression.
     pub name: Option<&'a str>,
+    /// Whether the message leaves the item out. It still counts for how much of the text is shown as found.
+    pub is_left_out: bool,
 }
 
 /// What an item expects. The items of a group are written together.
@@ -36,11 +38,11 @@ pub(crate) enum ItemGroup {
     Other,
 }
 
-/// Returns whether an item is in a group. Takes time linear in its span.
+/// Returns whether an item is written among those of a group. Takes time linear in its span.
 pub(crate) fn is_in_group(grammar: &[u8], item: &Item<'_>, group: ItemGroup) -> bool
-    ensures { result ≡ is_group (item_group grammar.now item.now) group }
+    ensures { result ≡ is_in_group grammar.now group item.now }
 {
-    is_group(spelling_group(span_bytes(grammar, item.span)), group)
+    !item.is_left_out && is_group(spelling_group(span_bytes(grammar, item.span)), group)
 }
 
 // Returns whether two groups are the same.

@@ -1,9 +1,10 @@
 What explain says of example texts that don't match, and of small grammars with mistakes.
 
-A basic string of TOML ends in its line; its characters are all but quotes, backslashes and control bytes.
+A basic string of TOML ends in its line; its characters are all but quotes, backslashes and control bytes. The rule
+Escape fails where it is called, so it is written in place of the backslash.
 
   $ pegtool explain examples/toml.peg examples/toml/match_tables.txt examples/toml/no_match_open_string.txt
-  examples/toml/no_match_open_string.txt:1:12: expected '"', '\\' or something other than ["\\\0-\10\12-\37\177], found '\n' (line end)
+  examples/toml/no_match_open_string.txt:1:12: expected '"', Escape or something other than ["\\\0-\10\12-\37\177], found '\n' (line end)
   name = "Tom
              ^
   [1]

@@ -100,8 +100,9 @@ Ten different items and the end are eleven, of which three are only counted.
   ^
   [1]
 
-The predicate `!.` expects the end, so it is written before the eight items that precede it in the file. With --rules
-each of two such predicates has its rule.
+The predicate `!.` expects the end, so it is written before the eight items that precede it in the file. The rule E is
+written in place of its parts. With --terminals these are written, and with --rules each of the two predicates has its
+rule.
 
   $ printf "S <- 'a' / 'b' / 'c' / 'd' / 'e' / 'f' / 'g' / 'h' / !. / E\nE <- 'i' / ! .\n" > g; printf z > t
   $ pegtool explain g t
@@ -109,7 +110,7 @@ each of two such predicates has its rule.
   z
   ^
   [1]
-  $ pegtool explain g t --rules
+  $ pegtool explain g t --rules --terminals
   t:1:1: expected the end in S, the end in E, 'a' in S, 'b' in S, 'c' in S, 'd' in S, 'e' in S, 'f' in S or 3 more, found 'z'
   z
   ^

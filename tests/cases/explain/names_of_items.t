@@ -1,5 +1,5 @@
-The names of rules in messages of explain: a class or dot is written as its rule if it failed in a call of the rule
-that starts at the position, and --rules adds the rules of the others.
+The names of rules in messages of explain: a rule that fails at once where it is called stands for its items, and --rules
+adds the rules of the others.
 
 The class is the expression of Number, which is called where it fails.
 
@@ -19,7 +19,7 @@ Both classes have the name of their rule, which is written once; the literal has
   ^
   [1]
 
-With --rules a literal is followed by its rule; two rules make two items of one literal.
+With --rules a literal is followed by its rule. Product fails at once, so it is named in place of its literal.
 
   $ printf "Sum <- 'a'" > g; printf z > t
   $ pegtool explain g t --rules
@@ -29,7 +29,7 @@ With --rules a literal is followed by its rule; two rules make two items of one 
   [1]
   $ printf "Sum <- 'a' / Product / 'a'\nProduct <- 'a'" > g; printf z > t
   $ pegtool explain g t --rules
-  t:1:1: expected 'a' in Sum or 'a' in Product, found 'z'
+  t:1:1: expected 'a' in Sum or Product, found 'z'
   z
   ^
   [1]

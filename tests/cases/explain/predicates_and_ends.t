@@ -37,7 +37,7 @@ Predicates use a second copy of each rule inside, which can't be named as the st
   [3]
   $ pegtool explain g t --start I
 
-The predicate of Name fails at position 7, where its rule was called.
+The predicate of Name fails at position 7, where its rule was called. So Name fails at once, and is named.
 
   $ cat > g <<'END'
   > Q <- 'SELECT' ' ' Name
@@ -46,7 +46,7 @@ The predicate of Name fails at position 7, where its rule was called.
   > END
   $ printf 'SELECT FROM' > t
   $ pegtool explain g t
-  t:1:8: expected something other than Keyword, found 'F'
+  t:1:8: expected Name, found 'F'
   SELECT FROM
          ^
   [1]

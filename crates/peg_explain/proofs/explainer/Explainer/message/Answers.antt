@@ -1,9 +1,23 @@
-use Rattle.std.proofs.Common.{◌∙◌, ℕ, ◌++◌, List, ap, map, refl}
+use Rattle.std.proofs.Common.{◌∙◌, ℕ, ◌++◌, List, ap, arith, length, map, refl}
+use Rattle.std.proofs.lemmas.List.{length-map}
+use Rattle.peg_parser.specs.Parser.{parser_rules}
+use Rattle.peg_explain.proofs.FileOrderLemmas.{length-in_file_order}
 use Rattle.peg_messages.specs.Failures.{failure_message}
 use Rattle.peg_messages.specs.declared.failure.Failure.{Failure}
 use Rattle.peg_semantics.specs.Rules.{Rule}
-use Rattle.peg_explain.specs.Explanations.{message_item_of, note_text, shown_item}
+use Rattle.peg_explain.specs.Explanations.{in_file_order, message_item_of, note_text}
 use Rattle.peg_explain.proofs.explainer.Explainer.message.Goals as goal
+
+pub write-requires-clause-few : goal.write-requires-clause-few
+write-requires-clause-few c =
+    let one = ap length c.in_ok-items.ensures.items in
+    let two = length-map c.in_ok-items.items.items message_item_of in
+    let three = length-in_file_order (parser_rules c.args.self.now.parser.now) c.args.self.now.style c.deref.result.now
+    c.deref-2.result.now in
+    let four = ap length c.deref.ensures.value in
+    let five = ap length c.deref-2.ensures.value in
+    let six = ap length c.deref-3.ensures.value in
+    omega (arith, one, two, three, four, five, six, c.requires.few)
 
 pub returns : goal.returns
 returns c file rules of_explainer =
@@ -13,7 +27,7 @@ returns c file rules of_explainer =
       text = c.args.text;
       grammar = c.args.self.now.file;
       at = c.args.mismatch.now.at;
-      expected = c.deref-2.result;
+      expected = c.deref-3.result;
       is_end_expected = c.args.mismatch.now.is_end_expected;
     } in (
       failure,
@@ -22,9 +36,9 @@ returns c file rules of_explainer =
         has_text = refl;
         has_grammar = of_explainer.has_file;
         at = refl;
-        items = ap (map message_item_of) c.deref-2.ensures.value ∙ c.in_ok-items.ensures.items
-            ∙ ap (λ (all : List Rule). map (shown_item all style) c.deref.result.now) of_explainer.has_parser
-            ∙ ap (map (shown_item rules style)) c.deref.ensures.value;
+        items = ap (map message_item_of) c.deref-3.ensures.value ∙ c.in_ok-items.ensures.items
+            ∙ ap (λ (all : List Rule). in_file_order all style c.deref.result.now c.deref-2.result.now) of_explainer.has_parser
+            ∙ (λ i. in_file_order rules style (c.deref.ensures.value i) (c.deref-2.ensures.value i));
         end = refl;
       },
       c.in_ok-write_note.ensures ∙ ap (λ (l : List ℕ). l ++ note_text c.args.mismatch.now.analysis)

@@ -27,18 +27,21 @@ returns-in_ok-expected-in-Some-clause-mismatch c file rules of_explainer =
     let text = c.args.text.now in
     let style = c.args.self.now.style in
     let outcome = c.in_ok-answer-in-Some.answer.outcome in
-    let expected = map fact_of c.in_ok-expected-in-Some.expected.items in
+    let expected = c.in_ok-expected-in-Some.expected in
     let blames : IsBlameParserOf rules c.in-Some.blames = subst (IsBlameOf rules) (sym c.get.ensures ∙ c.in-Some.is) of_explainer.blames in
     blame-explains rules style text (start_name rules (start_named c.args.options.now)) outcome
     (λ facts parsed. HasMismatch facts text parsed c.mismatch_in.result)
     (c.in_ok-answer-in-Some.ensures.outcome rules blames)
     (λ start named is.
-    let stated : AreItemsFor rules style text outcome is.blame.calls expected =
-    c.in_ok-expected-in-Some.ensures.items rules start blames of_explainer.has_parser named is in
-    (stated.0, stated.1, c.mismatch_in.ensures.mismatch (facts_by_blame rules stated.0) refl stated.2))
+    let stated : AreItemsFor rules style text start outcome is.blame.calls (map fact_of expected.items.items)
+    expected.rules.items = c.in_ok-expected-in-Some.ensures.items rules start blames of_explainer.has_parser named is in (
+      stated.0,
+      stated.1,
+      c.mismatch_in.ensures.mismatch (facts_by_blame rules stated.0) refl stated.2 stated.3,
+    ))
 
-pub returns-in_ok-expected-in-None-clause-mismatch : goal.returns-in_ok-expected-in-None-clause-mismatch
-returns-in_ok-expected-in-None-clause-mismatch c file rules of_explainer =
+pub returns-in_ok-items-in-None-clause-mismatch : goal.returns-in_ok-items-in-None-clause-mismatch
+returns-in_ok-items-in-None-clause-mismatch c file rules of_explainer =
     let text = c.args.text.now in
     let style = c.args.self.now.style in
     let outcome = c.in_ok-answer-in-None.answer.outcome in
@@ -48,9 +51,9 @@ returns-in_ok-expected-in-None-clause-mismatch c file rules of_explainer =
     let spans : map extent c.in_ok-spans-in-None.spans.items ≡ expected_spans (extents_of_terminals rules) outcome =
     c.in_ok-spans-in-None.ensures.spans
     ∙ ap (λ (l : List Rule). expected_spans (extents_of_terminals l) outcome) same in
-    let items : map fact_of c.in_ok-expected-in-None.expected.items
+    let items : map fact_of c.in_ok-items-in-None.items.items
     ≡ expected_items (facts_by_tests rules) outcome =
-    c.in_ok-expected-in-None.ensures.items
+    c.in_ok-items-in-None.ensures.items
     ∙ ap (map (λ (span : Span). unnamed_fact (extent span))) c.deref.ensures.value
     ∙ sym (map-map unnamed_fact extent c.in_ok-spans-in-None.spans.items)
     ∙ unnamed-items outcome rules (map extent c.in_ok-spans-in-None.spans.items) spans in
@@ -58,7 +61,7 @@ returns-in_ok-expected-in-None-clause-mismatch c file rules of_explainer =
     c.in_ok-answer-in-None.ensures.parse.outcome in
     tests-explain rules style text (start_name rules start) outcome
     (λ facts parsed. HasMismatch facts text parsed c.mismatch_in-in-None.result) lacks parsed
-    (c.mismatch_in-in-None.ensures.mismatch (facts_by_tests rules) refl (λ differs. items))
+    (c.mismatch_in-in-None.ensures.mismatch (facts_by_tests rules) refl c.new-rules.ensures.items (λ differs. items))
 
 pub mismatch_in-requires-in-None-clause-in_text : goal.mismatch_in-requires-in-None-clause-in_text
 mismatch_in-requires-in-None-clause-in_text c =
@@ -100,8 +103,8 @@ returns-in_err-answer-in-None-clause-limited c file rules of_explainer is_limit 
           c.args.options.now.steps) of_explainer.has_parser (more (search by_rules)),
     )
 
-pub returns-in_ok-expected-in-None-clause-enough : goal.returns-in_ok-expected-in-None-clause-enough
-returns-in_ok-expected-in-None-clause-enough c file rules of_explainer no_memo =
+pub returns-in_ok-items-in-None-clause-enough : goal.returns-in_ok-items-in-None-clause-enough
+returns-in_ok-items-in-None-clause-enough c file rules of_explainer no_memo =
     let lacks : HasNoBlameParser rules = subst (IsBlameOf rules) (sym c.get.ensures ∙ c.in-None.is) of_explainer.blames in
     inr (
       lacks,
@@ -125,8 +128,8 @@ returns-in_ok-expected-in-Some-clause-within c file rules of_explainer =
       ),
     )
 
-pub returns-in_ok-expected-in-None-clause-within : goal.returns-in_ok-expected-in-None-clause-within
-returns-in_ok-expected-in-None-clause-within c file rules of_explainer =
+pub returns-in_ok-items-in-None-clause-within : goal.returns-in_ok-items-in-None-clause-within
+returns-in_ok-items-in-None-clause-within c file rules of_explainer =
     let text = c.args.text.now in
     let start = start_named c.args.options.now in
     let steps = c.args.options.now.steps in

@@ -1,5 +1,5 @@
-use Rattle.std.proofs.Common.{◌∷◌, ◌++◌, ◌+◌, arith, ap, subst, sym, ◌∙◌}
-use Rattle.peg_messages.specs.Items.{is_group, item_group, item_text}
+use Rattle.std.proofs.Common.{Bool, ◌∷◌, ◌++◌, ◌+◌, arith, ap, subst, sym, ◌∙◌}
+use Rattle.peg_messages.specs.Items.{is_in_group, item_text}
 use Rattle.peg_messages.specs.Listings.{IsListing, bytes_of_each}
 use Rattle.peg_messages.specs.declared.items.Item.{Item}
 use Rattle.peg_messages.specs.declared.listing.Listing.{Listing}
@@ -11,7 +11,7 @@ use Rattle.peg_messages.proofs.failure.Failure.add_group.Goals.{else-is_in_group
 pub items-preserved : goal.items-preserved
 items-preserved c =
     let failure = c.args.self.now in
-    let test = λ (i : Item). is_group (item_group failure.grammar.now i) c.args.group in
+    let test : Item → Bool = is_in_group failure.grammar.now c.args.group in
     let text = item_text failure.grammar.now in
     let items = failure.expected.now in
     let at = c.items.item-index in
