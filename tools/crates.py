@@ -45,7 +45,10 @@ PURPOSE = {
     "peg_listings": "code, a table, warnings -> JSON",
     "peg_json": "an answer or a refusal -> a line of JSON, a status",
     "peg_cli": "arguments -> a command",
-    "peg_tool": "a command, bytes -> a line of output, a status",
+    "peg_records": "a stream -> its records, such as the lines of a log",
+    "peg_record_files": "names of texts -> the lines of their records, the worst outcome",
+    "peg_replies": "a command, a grammar file, a text -> a line of JSON, a status",
+    "peg_tool": "arguments, files by name -> output, a status",
     "pegtool": "the program",
 }
 

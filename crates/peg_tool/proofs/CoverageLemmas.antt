@@ -48,10 +48,10 @@ use Rattle.peg_semantics.specs.Starts.{start_name}
 use Rattle.peg_messages.specs.FileNames.{shown_name}
 use Rattle.peg_tool.specs.CoverageOutcome.{IsPrintedOf, WritesCoverage, error_lines, stopped_line, stopped_lines}
 use Rattle.peg_tool.specs.Faults.{IsFaultAmong, IsFaultAt, standard_output}
-use Rattle.peg_tool.specs.CoverageReplies.{CoversTo, has_coverage, marked_over_limit}
+use Rattle.peg_replies.specs.CoverageReplies.{CoversTo, has_coverage, marked_over_limit}
 use Rattle.peg_tool.specs.CoverageWritten.{IsReplyOfKind, IsTextFault, WritesCoverageReply}
-use Rattle.peg_tool.specs.Replies.{RepliesTo, refused_grammar}
-use Rattle.peg_tool.specs.Task.{ToolTask, Checks}
+use Rattle.peg_replies.specs.Replies.{RepliesTo, refused_grammar}
+use Rattle.peg_replies.specs.Task.{ToolTask, Checks}
 use Rattle.peg_tool.specs.declared.covering.CoverageReply.{CoverageReply}
 use Rattle.peg_tool.specs.declared.report.Findings.{Findings}
 use Rattle.peg_tool.specs.declared.fault.RequestFault.{RequestFault}
@@ -59,8 +59,8 @@ use Rattle.peg_tool.specs.declared.fault.RequestFault.TheVariants as failed
 use Rattle.peg_tool.specs.declared.fault.Stream.TheVariants as streams
 use Rattle.peg_tool.specs.declared.program.ProgramFault.{ProgramFault}
 use Rattle.peg_tool.specs.declared.program.ProgramFault.TheVariants.{File, Memory}
-use Rattle.peg_tool.proofs.JudgeLemmas.{refuses-replies}
-use Rattle.peg_tool.proofs.RunLemmas.{over-reply, right-held}
+use Rattle.peg_replies.proofs.JudgeLemmas.{refuses-replies}
+use Rattle.peg_replies.proofs.RunLemmas.{over-reply, right-held}
 
 -- ---- replies
 

@@ -1,14 +1,6 @@
 mod CoverageLemmas
 mod EndLemmas
 mod ExitLemmas
-mod JudgeLemmas
-mod LintLemmas
-mod ListedNames
-mod ParsedLines
-mod ProfiledLines
 mod ProgramLemmas
 mod ReportLemmas
-mod RunLemmas
-mod SelectedAnswers
 mod TestedLemmas
-mod WriteLemmas

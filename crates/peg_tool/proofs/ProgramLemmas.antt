@@ -1,8 +1,8 @@
 -- The results of tasks on files.
 use Rattle.std.proofs.Common.{◌≡◌, ℕ, List, Option, None, Some, Result, IfSome}
 use Rattle.peg_tool.specs.CommandOutcome.{WritesOrFails}
-use Rattle.peg_tool.specs.Replies.{IsPrinted}
-use Rattle.peg_tool.specs.Task.{ToolTask, TableTask, CheckTask, CodeTask, LintTask, ProfileTask, CoverTask, ParseTask, HasText, IsTextOf}
+use Rattle.peg_replies.specs.Replies.{IsPrinted}
+use Rattle.peg_replies.specs.Task.{ToolTask, TableTask, CheckTask, CodeTask, LintTask, ProfileTask, CoverTask, ParseTask, HasText, IsTextOf}
 use Rattle.peg_tool.specs.declared.program.ProgramFault.{ProgramFault}
 
 -- a task without a text takes any text

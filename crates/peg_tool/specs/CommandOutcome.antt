@@ -7,10 +7,10 @@ use Rattle.peg_io.specs.declared.opener.OpenFault.TheVariants as opening
 use Rattle.peg_io.specs.NamedFile.{NamedFile, bytes_of}
 use Rattle.peg_tool.specs.CoverageOutcome.{CoverageOutcome}
 use Rattle.peg_tool.specs.Explanations.{ExplanationOutcome}
-use Rattle.peg_tool.specs.Replies.{IsPrinted, IsPrintedJoined}
+use Rattle.peg_replies.specs.Replies.{IsPrinted, IsPrintedJoined}
 use Rattle.peg_tool.specs.TestOutcome.{TestOutcome}
 use Rattle.peg_tool.specs.Requests.{ToolRequest, InputRequest, HelpRequest, FileRequest, FilesRequest, CoverRequest, ExplainRequest, TestRequest}
-use Rattle.peg_tool.specs.Written.{PrintsInPart}
+use Rattle.peg_replies.specs.Written.{PrintsInPart}
 use Rattle.peg_tool.specs.declared.report.Findings.{Findings}
 use Rattle.peg_tool.specs.declared.program.ProgramFault.{ProgramFault}
 use Rattle.peg_tool.specs.declared.program.ProgramFault.TheVariants.{File, Memory}

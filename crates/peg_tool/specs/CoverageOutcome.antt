@@ -7,9 +7,9 @@ use Rattle.peg_explain_files.specs.Entries.{program_line}
 use Rattle.peg_io.specs.NamedFile.{NamedFile, bytes_of}
 use Rattle.peg_json.specs.Lines.{IsLineOf}
 use Rattle.peg_json.specs.Reply.{Reply, Covered}
-use Rattle.peg_tool.specs.Replies.{RepliesTo}
-use Rattle.peg_tool.specs.Task.{CoverTask}
-use Rattle.peg_tool.specs.Written.{PrintsInPart}
+use Rattle.peg_replies.specs.Replies.{RepliesTo}
+use Rattle.peg_replies.specs.Task.{CoverTask}
+use Rattle.peg_replies.specs.Written.{PrintsInPart}
 use Rattle.peg_tool.specs.declared.report.Findings.{Findings}
 use Rattle.peg_tool.specs.declared.program.ProgramFault.{ProgramFault}
 use Rattle.peg_tool.specs.declared.program.ProgramFault.TheVariants.{File, Memory}

@@ -13,8 +13,8 @@ use Rattle.peg_cli.specs.declared.words.Words.TheVariants.{Joined, Help, Table, 
 use Rattle.peg_lint.specs.FileWarnings.{selection_of}
 use Rattle.peg_json.specs.TreeForms.{form_from_options}
 use Rattle.peg_test_files.specs.TestQuestions.{TestQuestion}
-use Rattle.peg_tool.specs.PrintedNodes.{nodes_from_options}
-use Rattle.peg_tool.specs.Task.{ToolTask, TableTask, CheckTask, CodeTask, LintTask, ProfileTask, ParseTask}
+use Rattle.peg_replies.specs.PrintedNodes.{nodes_from_options}
+use Rattle.peg_replies.specs.Task.{ToolTask, TableTask, CheckTask, CodeTask, LintTask, ProfileTask, ParseTask}
 
 -- A request: the default task on a grammar file and a text from one input, a help text, a task on the grammar file with
 -- a name, a task on a grammar file and a text with two names, what the texts with some names use of a grammar file, an

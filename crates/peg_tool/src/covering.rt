@@ -14,16 +14,15 @@ ghost use Rattle.peg_json.specs.Statuses.{status_code};
 ghost use Rattle.peg_messages.specs.FileNames.{shown_name};
 ghost use Rattle.peg_parser.specs.Parser.{parser_rules, start_named};
 ghost use Rattle.peg_tool.specs.CoverageOutcome.{stopped_line, stopped_lines};
-ghost use Rattle.peg_tool.specs.CoverageReplies.{CoversTo};
+ghost use Rattle.peg_replies.specs.CoverageReplies.{CoversTo};
 ghost use Rattle.peg_tool.specs.CoverageWritten.{IsReplyOfKind, IsTextFault, WritesCoverageReply};
 ghost use Rattle.peg_tool.specs.Faults.{IsFaultAmong, IsFaultAt, plain_result, standard_output};
-ghost use Rattle.peg_tool.specs.Replies.{RepliesTo};
-ghost use Rattle.peg_tool.specs.Task.{CoverTask};
+ghost use Rattle.peg_replies.specs.Replies.{RepliesTo};
+ghost use Rattle.peg_replies.specs.Task.{CoverTask};
 
 use crate::fault::{RequestFault, Stream};
 use crate::program::ProgramFault;
 use crate::report::Findings;
-use crate::write::write_line;
 use peg_coverage::{Coverage, CoverageFault, CoverageParser, RequiredMatch};
 use peg_coverage_files::{CoveringFault, cover_files};
 use peg_grammar::Grammar;
@@ -34,6 +33,7 @@ use peg_json::{
 use peg_messages::shown_name;
 use peg_notation::MAX_FILE_BYTES;
 use peg_parser::{ParseOptions, Parser, Refusal};
+use peg_replies::write_line;
 use std::alloc::{AllocError, Global};
 
 /// What is printed of what texts use.

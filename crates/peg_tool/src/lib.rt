@@ -1,29 +1,17 @@
 //! The tool: reads a grammar file and a text, and writes one line of JSON.
 #![tactic(auto)]
 
-mod command;
 mod covering;
 mod exit;
 mod explaining;
 mod fault;
-mod joined;
-mod linting;
-mod loading;
-mod nodes;
-mod parse;
-mod profiling;
 mod program;
 mod report;
 mod request;
 mod testing;
-mod tool;
-mod tree_printing;
 mod write;
 
-pub use command::Command;
 pub use exit::{Exit, read_args, run_program};
-pub use joined::run_joined;
-pub use nodes::Nodes;
 pub use peg_cli::{Words, WordsFault, read_words};
 pub use peg_explain_files::{ItemStyle, NameEnd, Printing, Query};
 pub use peg_io::{Device, DeviceFault, FileSystem, OpenFault, Opener, Sink, Source, split};
@@ -35,8 +23,7 @@ pub use peg_parser::{
     Answer, FigureFault, ParseFault, ParseOptions, Parser, Refusal, read_by_figure,
 };
 pub use peg_profile::{Profile, RuleProfile};
+pub use peg_replies::{Command, Nodes, ToolFault, run_joined, run_tool};
 pub use peg_test_files::TestQuery;
 pub use program::{ProgramFault, run_words};
 pub use request::Request;
-pub use tool::run_tool;
-pub use write::ToolFault;

@@ -6,17 +6,16 @@ ghost use Rattle.std.specs.Result.{result_err};
 ghost use Rattle.peg_io.specs.NamedFile.{IsMissing, bytes_of, is_readable};
 ghost use Rattle.peg_messages.specs.FileNames.{shown_name};
 ghost use Rattle.peg_parser.specs.Parser.{start_named};
-ghost use Rattle.peg_tool.specs.Commands.{task_of};
+ghost use Rattle.peg_replies.specs.Commands.{task_of};
 ghost use Rattle.peg_tool.specs.CommandOutcome.{CommandOutcome, IsHelp, RequestOutcome, WritesOrFails};
 ghost use Rattle.peg_tool.specs.Faults.{IsFaultAmong, IsFaultAt, NamesCause, plain_result, standard_input};
 ghost use Rattle.peg_tool.specs.Faults.{standard_output, stream_names};
-ghost use Rattle.peg_tool.specs.Replies.{IsPrinted, IsPrintedJoined};
+ghost use Rattle.peg_replies.specs.Replies.{IsPrinted, IsPrintedJoined};
 ghost use Rattle.peg_tool.specs.RequestContract.{EndsAs};
 ghost use Rattle.peg_tool.specs.Requests.{InputRequest, requested};
 ghost use Rattle.peg_tool.specs.CoverageOutcome.{CoverageOutcome};
-ghost use Rattle.peg_tool.specs.Task.{HasText};
+ghost use Rattle.peg_replies.specs.Task.{HasText};
 
-use crate::command::Command;
 use crate::covering::{coverage_reply, write_coverage};
 use crate::explaining::explain;
 use crate::fault::{RequestFault, Stream};
@@ -24,12 +23,12 @@ use crate::report::{Findings, Report};
 use crate::request::Request;
 use crate::testing::test;
 use crate::write::write_request_reply;
-use crate::{joined, tool};
 use peg_cli::Words;
 use peg_coverage::RequiredMatch;
 use peg_io::{Device, Opener, Sink, Source, write_all_bytes};
 use peg_json::Status;
 use peg_parser::ParseOptions;
+use peg_replies::{Command, joined_line, reply_line};
 use std::alloc::{AllocError, Global};
 use std::io;
 use std::io::ErrorKind;
@@ -191,7 +190,7 @@ fn on_input<'a, I: Source, W: Sink>(
     ensures output { W.failed output.new ≡ true → IfErr result (IsFaultAt standard_output (W.fault_kind output.new)) }
     ensures named { IfErr result (IsFaultAmong (standard_input ∷ standard_output ∷ [])) }
 {
-    let reply = joined::line_of(alloc, input);
+    let reply = joined_line(alloc, input);
     write_request_reply(output, reply, Stream::Input, input.fault_kind())
 }
 
@@ -224,7 +223,7 @@ fn on_file<'a, O: Opener, W: Sink>(
         Err(fault) => return Err(RequestFault::of_file(g, fault)),
     };
     let mut text = Device::new(io::empty());
-    let reply = tool::line_of(alloc, &mut grammar, &mut text, command);
+    let reply = reply_line(alloc, &mut grammar, &mut text, command);
     write_request_reply(output, reply, Stream::File(g), grammar.fault_kind())
 }
 
@@ -267,7 +266,7 @@ fn on_files<'a, O: Opener, W: Sink>(
         Ok(file) => file,
         Err(fault) => return Err(RequestFault::of_file(t, fault)),
     };
-    let reply = tool::line_of(alloc, &mut grammar, &mut text, command);
+    let reply = reply_line(alloc, &mut grammar, &mut text, command);
     match grammar.fault_kind() {
         None => write_request_reply(output, reply, Stream::File(t), text.fault_kind()),
         kind => write_request_reply(output, reply, Stream::File(g), kind),

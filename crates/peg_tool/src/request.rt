@@ -3,17 +3,17 @@ ghost use Rattle.std.specs.Prelude.{◌≡◌, false, map, option_map, string_by
 ghost use Rattle.peg_explain.specs.Styles.{style_of};
 ghost use Rattle.peg_lint.specs.FileWarnings.{selection_of};
 ghost use Rattle.peg_parser.specs.Parser.{start_named};
-ghost use Rattle.peg_tool.specs.Commands.{IsParseWords, request_of, task_of};
+ghost use Rattle.peg_replies.specs.Commands.{task_of};
 ghost use Rattle.peg_tool.specs.Requests.{CoverRequest, FileRequest, IsExplainRequest, TestRequest, needed_of, requested};
-ghost use Rattle.peg_tool.specs.Task.{LintTask};
+ghost use Rattle.peg_replies.specs.Task.{LintTask};
+ghost use Rattle.peg_tool.specs.WordRequests.{IsParseWords, request_of};
 
-use crate::command::Command;
-use crate::nodes::Nodes;
 use peg_cli::Words;
 use peg_coverage::RequiredMatch;
 use peg_explain_files::{ItemStyle, NameEnd, Printing, Query};
 use peg_lint::Selection;
 use peg_parser::ParseOptions;
+use peg_replies::{Command, Nodes};
 use peg_test_files::TestQuery;
 
 /// What the arguments of the program request.

@@ -2,11 +2,11 @@ use Rattle.std.proofs.Common.{length, map, string_bytes}
 use Rattle.peg_coverage_files.specs.NamedTexts.{files_named}
 use Rattle.peg_parser.specs.Parser.{parser_rules, start_named}
 use Rattle.peg_parser.specs.Refusals.{IsRefusalOf}
-use Rattle.peg_tool.specs.CoverageReplies.{CoversTo}
-use Rattle.peg_tool.specs.Replies.{RepliesTo, covered}
-use Rattle.peg_tool.specs.Task.{CoverTask}
+use Rattle.peg_replies.specs.CoverageReplies.{CoversTo}
+use Rattle.peg_replies.specs.Replies.{RepliesTo, covered}
+use Rattle.peg_replies.specs.Task.{CoverTask}
 use Rattle.peg_tool.proofs.CoverageLemmas.{kind-weaker, refused-alone}
-use Rattle.peg_tool.proofs.JudgeLemmas.{reported-true_refusal}
+use Rattle.peg_replies.proofs.JudgeLemmas.{reported-true_refusal}
 use Rattle.peg_tool.proofs.covering.cover_by_file.Goals as goal
 
 pub refused_line-requires-clause-true_refusal : goal.refused_line-requires-clause-true_refusal

@@ -3,7 +3,7 @@ use Rattle.peg_coverage.specs.CoverageParser.{IsCoverageParserOf}
 use Rattle.peg_coverage_files.specs.NamedTexts.{files_named}
 use Rattle.peg_parser.specs.Parser.{parser_rules, start_named}
 use Rattle.peg_semantics.specs.Rules.{Rule}
-use Rattle.peg_tool.specs.CoverageReplies.{CoversTo}
+use Rattle.peg_replies.specs.CoverageReplies.{CoversTo}
 use Rattle.peg_tool.specs.CoverageWritten.{IsReplyOfKind}
 use Rattle.peg_tool.proofs.CoverageLemmas.{no-coverage-replies}
 use Rattle.peg_tool.proofs.covering.cover_by_grammar.Goals as goal

@@ -12,9 +12,9 @@ use Rattle.peg_json.specs.Reply.{Refused}
 use Rattle.peg_json.specs.Statuses.{status_code}
 use Rattle.peg_json.proofs.ParseLemmas.{start-given}
 use Rattle.peg_parser.specs.Cause.{NoSuchStart, TextTooLong}
-use Rattle.peg_tool.specs.CoverageReplies.{CoversTo, a_text_over_limit, start_unknown}
+use Rattle.peg_replies.specs.CoverageReplies.{CoversTo, a_text_over_limit, start_unknown}
 use Rattle.peg_tool.proofs.CoverageLemmas.{coverage-replies, first-file, line-alone, stopped-named, unused-below}
-use Rattle.peg_tool.proofs.ParsedLines.{given-name}
+use Rattle.peg_replies.proofs.ParsedLines.{given-name}
 use Rattle.peg_tool.proofs.covering.cover_by_parser.Goals as goal
 
 pub covered_reply-requires-clause-rules : goal.covered_reply-requires-clause-rules

@@ -6,8 +6,8 @@ use Rattle.peg_metagrammar.specs.Notation.{max_file_bytes}
 use Rattle.peg_parser.specs.Parser.{start_named}
 use Rattle.peg_tool.specs.CoverageWritten.{IsReplyOfKind}
 use Rattle.peg_tool.specs.Faults.{standard_output}
-use Rattle.peg_tool.specs.Replies.{RepliesTo}
-use Rattle.peg_tool.specs.Task.{CoverTask}
+use Rattle.peg_replies.specs.Replies.{RepliesTo}
+use Rattle.peg_replies.specs.Task.{CoverTask}
 use Rattle.peg_tool.proofs.CoverageLemmas.{at-among, first-among, reply-held, text-faults-among}
 use Rattle.peg_tool.proofs.covering.coverage_reply.Goals as goal
 

@@ -1,10 +1,10 @@
 use Rattle.std.proofs.Common.{ℕ, List, lit<, refl, ◌∷◌, []}
 use Rattle.peg_io.specs.NamedFile.{bytes_of}
 use Rattle.peg_messages.specs.FileNames.{shown_name}
-use Rattle.peg_tool.specs.Commands.{task_of}
+use Rattle.peg_replies.specs.Commands.{task_of}
 use Rattle.peg_tool.specs.Faults.{plain_result, standard_output}
-use Rattle.peg_tool.specs.Replies.{IsPrinted}
-use Rattle.peg_tool.specs.Task.{IsTextOf}
+use Rattle.peg_replies.specs.Replies.{IsPrinted}
+use Rattle.peg_replies.specs.Task.{IsTextOf}
 use Rattle.peg_tool.proofs.EndLemmas.{opened-outcome, reply-among}
 use Rattle.peg_tool.proofs.ProgramLemmas.{alone-outcome}
 use Rattle.peg_tool.proofs.program.on_file.Goals as goal
@@ -17,9 +17,9 @@ returns-clause-leads g c =
     let new = g.W.Sink.written c.write_request_reply.new.output in
     let result = plain_result c.write_request_reply.result in
     alone-outcome task held _ old new result c.requires.alone
-    (opened-outcome (λ (file bytes : List ℕ). IsTextOf task file _ bytes) (IsPrinted task) old new c.line_of-reply.result
+    (opened-outcome (λ (file bytes : List ℕ). IsTextOf task file _ bytes) (IsPrinted task) old new c.reply_line-reply.result
     held (g.O.File.Source.left c.in-Ok.file) result c.in-Ok.ensures.bytes c.write_request_reply.ensures.ends
-    c.line_of-reply.ensures.answer)
+    c.reply_line-reply.ensures.answer)
 
 pub returns-clause-named : goal.returns-clause-named
 returns-clause-named g c =

@@ -1,10 +1,10 @@
 use Rattle.std.proofs.Common.{ℕ, List, lit<, refl, ◌∷◌, []}
 use Rattle.peg_io.specs.NamedFile.{bytes_of}
 use Rattle.peg_messages.specs.FileNames.{shown_name}
-use Rattle.peg_tool.specs.Commands.{task_of}
+use Rattle.peg_replies.specs.Commands.{task_of}
 use Rattle.peg_tool.specs.Faults.{plain_result, standard_output}
-use Rattle.peg_tool.specs.Replies.{IsPrinted}
-use Rattle.peg_tool.specs.Task.{IsTextOf}
+use Rattle.peg_replies.specs.Replies.{IsPrinted}
+use Rattle.peg_replies.specs.Task.{IsTextOf}
 use Rattle.peg_tool.proofs.EndLemmas.{opened-outcome, reply-among}
 use Rattle.peg_tool.proofs.ProgramLemmas.{both-outcome}
 use Rattle.peg_tool.proofs.program.on_files.Goals as goal
@@ -20,8 +20,8 @@ returns-in-None-clause-leads g c =
     let result = plain_result c.write_request_reply.result in
     both-outcome task held held_text text old new result c.in-Ok-open.ensures.bytes
     (opened-outcome (λ (file bytes : List ℕ). IsTextOf task file text bytes) (IsPrinted task) old new
-    c.line_of-reply.result held (g.O.File.Source.left c.in-Ok.file) result c.in-Ok.ensures.bytes
-    c.write_request_reply.ensures.ends c.line_of-reply.ensures.answer)
+    c.reply_line-reply.result held (g.O.File.Source.left c.in-Ok.file) result c.in-Ok.ensures.bytes
+    c.write_request_reply.ensures.ends c.reply_line-reply.ensures.answer)
 
 pub returns-in-None-clause-named : goal.returns-in-None-clause-named
 returns-in-None-clause-named g c =

@@ -3,7 +3,7 @@ use Rattle.peg_io.specs.NamedFile.{bytes_of}
 use Rattle.peg_messages.specs.FileNames.{shown_name}
 use Rattle.peg_parser.specs.Parser.{start_named}
 use Rattle.peg_tool.specs.Faults.{plain_result, standard_output}
-use Rattle.peg_tool.specs.Task.{CoverTask}
+use Rattle.peg_replies.specs.Task.{CoverTask}
 use Rattle.peg_tool.proofs.CoverageLemmas.{ended-among, last-among, reply-written}
 use Rattle.peg_tool.proofs.program.on_texts.Goals as goal
 

@@ -1,0 +1,4 @@
+pub mod Faults
+pub mod RecordReplies
+pub mod Runs
+pub mod Streams

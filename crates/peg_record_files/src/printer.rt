@@ -1,0 +1,34 @@
+//! What makes the lines of records.
+ghost use Rattle.std.specs.Prelude.{◌≡◌, ℕ, ◌≤◌, ◌++◌, List, IfOk};
+ghost use Rattle.peg_records.specs.Ahead.{IsGivenFor};
+ghost use Rattle.peg_record_files.specs.declared.outcome.RecordOutcome.{RecordOutcome};
+
+use crate::outcome::RecordOutcome;
+use std::alloc::{AllocError, Global};
+
+/// Makes the lines of records.
+pub trait RecordPrinter {
+    // a record with this number may have this line and this outcome
+    ghost replies: { Self → (number : ℕ) → (text line : List ℕ) → RecordOutcome → Type 0 };
+
+    // A longer record may be given in part.
+    ghost max_bytes: { Self → ℕ };
+
+    /// Returns the limit: a record with more bytes may be given in part, as more bytes than that.
+    fn max_bytes(&self) -> usize
+        ensures bytes { result ≡ max_bytes self.now }
+        ensures range { result ≤ 9223372036854775807 };
+
+    /// Appends the line of the record with this number, of which these bytes are given, and returns its outcome.
+    /// Appends a part of it, or nothing, if an allocation fails.
+    fn push_line(
+        &self,
+        alloc: Global,
+        number: u64,
+        given: &[u8],
+        lines: &mut Vec<u8>,
+    ) -> Result<RecordOutcome, AllocError>
+        ensures { (text : List ℕ) → IsGivenFor (max_bytes self.now) given.now text → IfOk result (λ outcome.
+            (line : List ℕ) × replies self.now number text line outcome
+            × (lines.new.items ≡ lines.old.items ++ line)) };
+}

@@ -1,0 +1,27 @@
+-- Describes code: what requests are.
+use Rattle.std.specs.Prelude.{map, string_bytes}
+use Rattle.peg_cli.specs.declared.words.Words.{Words}
+use Rattle.peg_cli.specs.declared.words.Words.TheVariants as words
+use Rattle.peg_explain_files.specs.Questions.{question_of}
+use Rattle.peg_parser.specs.Parser.{start_named}
+use Rattle.peg_replies.specs.Commands.{task_of}
+use Rattle.peg_test_files.specs.TestQuestions as asked
+use Rattle.peg_tool.specs.Requests.{ToolRequest, InputRequest, HelpRequest, FileRequest, FilesRequest, CoverRequest, ExplainRequest, TestRequest}
+use Rattle.peg_tool.specs.declared.request.Request.{Request}
+use Rattle.peg_tool.specs.declared.request.Request.TheVariants as request
+
+-- what a request asks for
+abbrev pub request_of : Request → ToolRequest
+request_of request.Joined = InputRequest
+request_of (request.Help text) = HelpRequest text.now
+request_of (request.OnFile g command) = FileRequest (task_of command) g.now
+request_of (request.OnFiles g t command) = FilesRequest (task_of command) g.now t.now
+request_of (request.Cover g texts options needed) =
+    CoverRequest (start_named options) options.memo options.steps needed g.now (map string_bytes texts.now)
+request_of (request.Explain query printing) = ExplainRequest (question_of query) printing
+request_of (request.Test query) = TestRequest (asked.question_of query)
+
+-- the arguments are those of a parse
+abbrev pub IsParseWords : Words → Type 0
+IsParseWords (words.Parse g t start memo steps all rows no_tree show hide text) = Unit {0}
+IsParseWords other = ⊥
