@@ -6,12 +6,12 @@
  * Handles
  *   A handle is a struct of one pointer. A null handle, `PEG_NULL`, holds nothing. Initialise each handle to it before
  *   the first call. A call that fills a handle releases what it held before; a call that fails leaves it unchanged.
- *   The caller owns what a handle holds and releases it with `peg_grammar_free`, `peg_match_free`,
- *   `peg_explanation_free` or `peg_explainer_free`, which leave the handle null. Releasing a null handle does nothing.
+ *   The caller owns what a handle holds and releases it with the `free` function of its type, such as
+ *   `peg_grammar_free`, which leaves the handle null. Releasing a null handle does nothing.
  *   Move a handle by copying the struct and no longer using the old one: two copies are two owners, and using both is
- *   undefined. For two owners call `peg_grammar_share`, `peg_match_share`, `peg_explanation_share` or
- *   `peg_explainer_share`. Handles that share what they hold own it together: it never changes, and its memory is freed
- *   when the last of them is released. A match and an explanation don't depend on their grammar.
+ *   undefined. For two owners call the `share` function of the type, such as `peg_grammar_share`. Handles that share
+ *   what they hold own it together: it never changes, and its memory is freed when the last of them is released. A
+ *   match, an explanation and a line don't depend on their grammar.
  *
  * Memory
  *   The library keeps no pointer to the caller's memory: a grammar file and a text may be freed after the call. Memory
@@ -20,7 +20,7 @@
  *   no memory for a result in the memo, the memo evicts older results and tries again; the parse is out of memory only
  *   if none is left. If there is none for tables that save time, the parse goes on without them.
  *   The library prints nothing, doesn't end the process and has no global state.
- *   A call takes at most 240 KiB of the caller's stack. This bound is measured, not proved.
+ *   A call takes at most 240 KiB of the caller's stack, and peg_lint 272 KiB. These bounds are measured, not proved.
  *
  * Pointers
  *   No pointer may be NULL, not even with a length of 0: pass any valid address that is aligned for its type. For bytes
@@ -62,7 +62,8 @@ extern "C" {
 
 /* A grammar handle holds a grammar, or the reason why a grammar file was refused. A match handle holds the answer to a
  * parse, and an explanation handle says where a text doesn't match. An explainer handle holds a grammar that is
- * compiled for explanations. The member is private. */
+ * compiled for explanations. A line handle holds a line of JSON that pegtool prints about a grammar. A parser handle
+ * holds a grammar whose trees have the nodes of chosen rules. The member is private. */
 typedef struct peg_grammar {
     void *opaque;
 } peg_grammar;
@@ -79,6 +80,14 @@ typedef struct peg_explainer {
     void *opaque;
 } peg_explainer;
 
+typedef struct peg_line {
+    void *opaque;
+} peg_line;
+
+typedef struct peg_parser {
+    void *opaque;
+} peg_parser;
+
 /* The initialiser of a null handle. */
 #define PEG_NULL {0}
 
@@ -92,7 +101,8 @@ enum peg_status {
     PEG_OUT_OF_MEMORY = 5, /* a request for memory failed */
     PEG_STEP_LIMIT = 6,    /* the parse takes more steps than the limit allows */
     PEG_TEXT_TOO_LONG = 7, /* the text has more than 67,108,864 bytes */
-    PEG_OUT_OF_RANGE = 8   /* the offset is past the end of the text, or past 2,147,483,647 */
+    PEG_OUT_OF_RANGE = 8,  /* the offset is past the end of the text, or past 2,147,483,647 */
+    PEG_NO_SUCH_RULE = 9   /* no rule has the name */
 };
 
 /* Why a grammar file was refused. docs/USAGE.md describes the kinds: PEG_FILE_TOO_LONG is FileTooLong there, etc. No
@@ -205,6 +215,41 @@ uint32_t peg_rule_count(peg_grammar *grammar, uint32_t *out);
  * start is copied. Returns the length of the whole name, or 0 if there is no such rule or no grammar. */
 size_t peg_rule_name(peg_grammar *grammar, uint32_t rule, uint8_t *out, size_t out_length);
 
+/* Writes the number of the rule with a name. The time is linear in the number of rules.
+ * Returns PEG_OK. Otherwise `out` is unchanged. PEG_NO_SUCH_RULE: no rule has the name. PEG_WRONG_HANDLE: the handle
+ * holds no grammar. */
+uint32_t peg_rule_number(peg_grammar *grammar, const uint8_t *name, size_t name_length, uint32_t *out);
+
+/* ---- lines that pegtool prints about a grammar
+ *
+ * Each of these calls makes the line that a command of pegtool prints for the same grammar file, without its line end,
+ * and stores it in `out`. docs/USAGE.md describes the lines. `grammar` is unchanged.
+ * They return PEG_OK; the caller then has to release `out` with `peg_line_free`.
+ * Otherwise `out` is unchanged. PEG_WRONG_HANDLE: the handle holds no grammar. PEG_OUT_OF_MEMORY: a request for memory
+ * failed. */
+
+/* The line of `pegtool code`: the instructions that the grammar compiles to. */
+uint32_t peg_code(peg_grammar *grammar, peg_line *out);
+
+/* The line of `pegtool table`: what the expression of each rule can do. */
+uint32_t peg_table(peg_grammar *grammar, peg_line *out);
+
+/* The line of `pegtool lint`: the warnings about the grammar, which are `{"warnings":[]}` if there are none. Texts are
+ * parsed from the rule that `start` names, or from the first rule if `start` is empty. If `proved` isn't 0, there are
+ * only warnings of proved kinds.
+ * Returns PEG_NO_SUCH_START if no rule has the name; `out` is then unchanged. */
+uint32_t peg_lint(peg_grammar *grammar, const uint8_t *start, size_t start_length, uint32_t proved, peg_line *out);
+
+/* Makes `out` another handle of the line that `line` holds, as `peg_grammar_share` does for a grammar. */
+uint32_t peg_line_share(peg_line *line, peg_line *out);
+
+/* Releases what a handle holds and leaves the handle null. Its memory is freed if no other handle shares it. */
+void peg_line_free(peg_line *line);
+
+/* Copies a line to `out`, without a final null byte. If it is longer than `out_length`, only its start is copied.
+ * Returns the length of the whole line, or 0 if the handle holds no line. */
+size_t peg_line_text(peg_line *line, uint8_t *out, size_t out_length);
+
 /* ---- parses */
 
 /* Parses a prefix of a text and stores the answer in `out`. `start` is the name of the start rule, or empty for the
@@ -217,6 +262,26 @@ size_t peg_rule_name(peg_grammar *grammar, uint32_t rule, uint8_t *out, size_t o
  * `steps`. PEG_OUT_OF_MEMORY: a request for memory failed. */
 uint32_t peg_parse(peg_grammar *grammar, const uint8_t *text, size_t text_length, const uint8_t *start,
                    size_t start_length, uint32_t memo, uint64_t steps, peg_match *out);
+
+/* Reads a grammar file for parses whose trees have the root and the nodes of chosen rules. `shown` has a byte for each
+ * rule by its number: if it is 0, nodes of the rule aren't made, and their children take their place. So a parse takes
+ * less time and memory. Rules whose bytes are missing aren't shown: with `shown_length` 0 the root is the only node.
+ * Returns PEG_OK; the caller then has to release `out` with `peg_parser_free`.
+ * Otherwise `out` is unchanged. PEG_REFUSED: the file is refused, and `peg_grammar_read` gives the reason.
+ * PEG_OUT_OF_MEMORY: a request for memory failed. */
+uint32_t peg_parser_read(const uint8_t *file, size_t file_length, const uint8_t *shown, size_t shown_length,
+                         peg_parser *out);
+
+/* Makes `out` another handle of the parser that `parser` holds, as `peg_grammar_share` does for a grammar. */
+uint32_t peg_parser_share(peg_parser *parser, peg_parser *out);
+
+/* Releases what a handle holds and leaves the handle null. Its memory is freed if no other handle shares it. */
+void peg_parser_free(peg_parser *parser);
+
+/* Parses a prefix of a text as `peg_parse` does for a grammar of the same file. Status, summary and expected terminals
+ * are those of `peg_parse`, but for the number of nodes. Rule numbers are the grammar's. `parser` is unchanged. */
+uint32_t peg_parser_parse(peg_parser *parser, const uint8_t *text, size_t text_length, const uint8_t *start,
+                          size_t start_length, uint32_t memo, uint64_t steps, peg_match *out);
 
 /* Makes `out` another handle of the answer that `match` holds, as `peg_grammar_share` does for a grammar. */
 uint32_t peg_match_share(peg_match *match, peg_match *out);
@@ -301,6 +366,10 @@ uint32_t peg_locate(const uint8_t *text, size_t text_length, size_t offset, peg_
 
 /* Returns the number of the binary interface. If it isn't PEG_ABI, the library doesn't fit this header. */
 uint32_t peg_abi(void);
+
+/* Copies the name of a status to `out`, such as PEG_OK, without a final null byte. If it is longer than `out_length`,
+ * only its start is copied. Returns the length of the whole name, or 0 for a number that is no status. */
+size_t peg_status_name(uint32_t status, uint8_t *out, size_t out_length);
 
 /* Copies the version of the library to `out`, such as 0.1.0, without a final null byte. If it is longer than
  * `out_length`, only its start is copied. Returns the length of the whole version. */

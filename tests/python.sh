@@ -1,7 +1,7 @@
 #!/usr/bin/env bash
 # Runs the tests of the Python package on the built library (`make lib`) and on the built program, which is the argument:
-# with python3, and with other versions that are here. The wheel is tested with the oldest version and the newest one. A
-# version that isn't here, and a test that is skipped, has a line SKIPPED.
+# with python3, and with other versions that are here. The wheel is tested with the oldest version and the newest one.
+# The annotations are checked by mypy. A version that isn't here, and a test that is skipped, has a line SKIPPED.
 set -u
 cd "$(dirname "$0")/.." || exit 1
 program=$(realpath "${1:-crates/pegtool/out/pegtool}")
@@ -22,6 +22,11 @@ test_wheel() { # a version, and the path of its Python if it is here
   if [ -z "$2" ]; then echo "SKIPPED: the wheel with Python $1"; return; fi
   tests/wheel.sh "$2" || faults=$((faults + 1))
 }
+check_types() {
+  if ! command -v mypy > /dev/null; then echo "SKIPPED: the annotations, there is no mypy"; return; fi
+  mypy --strict --cache-dir /dev/null python/pegtool || faults=$((faults + 1))
+}
+check_types
 run_tests python3
 for version in 3.9 3.10 3.13; do
   python=$(find_python "$version")

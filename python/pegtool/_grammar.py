@@ -6,23 +6,26 @@ import json
 import operator
 import os
 import threading
-from typing import Any, Dict, FrozenSet, Iterable, Optional, Tuple, Union, overload
+from typing import Any, Dict, FrozenSet, Iterable, List, Optional, Tuple, Union, overload
 
 from ._errors import GrammarError, NoSuchRuleError, StepLimitError, TextTooLongError
 from ._library import (
     FAILED,
     NO_SUCH_START,
+    OK,
     REFUSED,
     STEP_LIMIT,
     TEXT_TOO_LONG,
     ExplainerHandle,
     GrammarHandle,
     Options,
+    ParserHandle,
+    ParsingHandle,
     RawExplanation,
     Shared,
 )
 from ._match import Failure, Match, Request
-from ._packed import selected, shifted
+from ._packed import shifted
 from ._text import Buffer, Text, text_of
 
 # The capacity of the memo that pegtool uses if none is given.
@@ -31,6 +34,9 @@ DEFAULT_MEMO = 4096
 # The greatest number of memo entries, and of steps, that can be asked for.
 MAX_MEMO = 1_000_000
 MAX_STEPS = 1_000_000_000_000
+
+# The greatest number of parsers with hidden rules that a grammar keeps.
+MOST_PARSERS = 8
 
 
 class Grammar:
@@ -62,6 +68,8 @@ class Grammar:
         # The grammar as it is compiled for explanations, from the first error on.
         self._explaining: Optional[Shared[ExplainerHandle]] = None
         self._lock = threading.RLock()
+        # The parsers that don't make the nodes of some rules, by these rules; the one that was asked for last is last.
+        self._parsers: Dict[FrozenSet[str], Shared[ParserHandle]] = {}
         # For sets of hidden rules that were asked for, the rules whose nodes never have children.
         self._leaves: Dict[FrozenSet[str], FrozenSet[str]] = {}
         # The names of the rules, in order.
@@ -207,14 +215,47 @@ class Grammar:
         hidden = self._hidden(show, hide)
         text = text_of(data)
         first = text.offset(operator.index(pos))
-        status, raw = self._handle().parse(text.data, first, options, tree)
+        status, raw = self._parser(hidden, tree).parse(text.data, first, options, tree)
         if raw is None:
             raise fault(status, options)
         request = Request(text, first, options, hidden, tree, name)
         raw = shifted(raw, first)
         if status == FAILED:
             return Failure(self, request, raw)
-        return Match(self, request, selected(raw, self._numbers(hidden)))
+        return Match(self, request, raw)
+
+    def code(self) -> Any:
+        """What `pegtool code` prints, as JSON is read: the instructions that the grammar compiles to.
+
+        >>> Grammar("S <- 'a'").code()
+        {'code': [['end'], ['test', 0, [[97, 97]]], ['ret']], 'entries': [1]}
+        """
+        return json_of(*self._handle().code())
+
+    def table(self) -> List[Dict[str, Any]]:
+        """What the expression of each rule can do, as in the line of `pegtool table`.
+
+        >>> Grammar("S <- 'a'?").table()
+        [{'fails': False, 'nothing': True, 'rule': 'S', 'something': True}]
+        """
+        found: List[Dict[str, Any]] = json_of(*self._handle().table())["table"]
+        return found
+
+    def warnings(self, start: Optional[str] = None, *, proved: bool = False) -> List[Dict[str, Any]]:
+        """The warnings about the grammar, as in the line of `pegtool lint`.
+
+        >>> [warning["kind"] for warning in Grammar("S <- 'a' / 'ab'").warnings()]
+        ['Shadowed']
+
+        Texts are parsed from the rule `start`, by default from the first one. With `proved` there are only warnings of
+        proved kinds. Raises `NoSuchRuleError` if no rule has the name of the start.
+        """
+        options = options_of(start, 0, None)
+        status, line = self._handle().warnings(options.start, proved)
+        if status == NO_SUCH_START:
+            raise fault(status, options)
+        found: List[Dict[str, Any]] = json_of(status, line)["warnings"]
+        return found
 
     def is_leaf(self, rule: str, hidden: Iterable[str] = ()) -> bool:
         """Whether nodes of a rule never have children: the rule calls no other outside predicates, or only hidden rules
@@ -245,10 +286,6 @@ class Grammar:
                 raise NoSuchRuleError(f"no rule has the name {name}")
         return frozenset(wanted)
 
-    def _numbers(self, rules: Iterable[str]) -> FrozenSet[int]:
-        """The numbers of rules."""
-        return frozenset(map(self.rules.index, rules))
-
     def _explain(self, text: bytes, first: int, options: Options) -> RawExplanation:
         """Where a text doesn't match as a whole, from an offset on."""
         status, raw = self._explainer().explain(text, first, options)
@@ -259,6 +296,21 @@ class Grammar:
     def _handle(self) -> GrammarHandle:
         """The handle of the compiled grammar that this thread uses."""
         return self._shared.handle()
+
+    def _parser(self, hidden: FrozenSet[str], tree: bool) -> ParsingHandle:
+        """The handle of the parser without the nodes of hidden rules, or without any, that this thread uses."""
+        if tree and not hidden:
+            return self._handle()
+        omitted = hidden if tree else frozenset(self.rules)
+        with self._lock:
+            shared = self._parsers.pop(omitted, None)
+            if shared is None:
+                shown = bytes(rule not in omitted for rule in self.rules)
+                shared = Shared(ParserHandle(shown), self.source)
+                while len(self._parsers) >= MOST_PARSERS:
+                    del self._parsers[next(iter(self._parsers))]
+            self._parsers[omitted] = shared
+        return shared.handle()
 
     def _explainer(self) -> ExplainerHandle:
         """The handle of the explainer that this thread uses."""
@@ -283,6 +335,13 @@ class Grammar:
 def grammar_of(source: Union[str, bytes], name: str, hide: FrozenSet[str]) -> Grammar:
     """A grammar that was pickled."""
     return Grammar(source, name=name, hide=hide)
+
+
+def json_of(status: int, line: bytes) -> Any:
+    """The JSON of a line. Raises `MemoryError` if there is none."""
+    if status != OK:
+        raise MemoryError("no memory for a line")
+    return json.loads(line)
 
 
 def options_of(start: Optional[str], memo: int, steps: Optional[int]) -> Options:

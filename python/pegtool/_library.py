@@ -67,7 +67,26 @@ DECLARATIONS: Dict[str, Tuple[Any, ...]] = {
     "peg_grammar_message": (c_size_t, POINTER(Handle), POINTER(c_uint8), c_size_t),
     "peg_rule_count": (c_uint32, POINTER(Handle), POINTER(c_uint32)),
     "peg_rule_name": (c_size_t, POINTER(Handle), c_uint32, POINTER(c_uint8), c_size_t),
+    "peg_code": (c_uint32, POINTER(Handle), POINTER(Handle)),
+    "peg_table": (c_uint32, POINTER(Handle), POINTER(Handle)),
+    "peg_lint": (c_uint32, POINTER(Handle), c_char_p, c_size_t, c_uint32, POINTER(Handle)),
+    "peg_line_free": (None, POINTER(Handle)),
+    "peg_line_text": (c_size_t, POINTER(Handle), POINTER(c_uint8), c_size_t),
     "peg_parse": (
+        c_uint32,
+        POINTER(Handle),
+        c_void_p,
+        c_size_t,
+        c_char_p,
+        c_size_t,
+        c_uint32,
+        c_uint64,
+        POINTER(Handle),
+    ),
+    "peg_parser_read": (c_uint32, c_char_p, c_size_t, c_char_p, c_size_t, POINTER(Handle)),
+    "peg_parser_share": (c_uint32, POINTER(Handle), POINTER(Handle)),
+    "peg_parser_free": (None, POINTER(Handle)),
+    "peg_parser_parse": (
         c_uint32,
         POINTER(Handle),
         c_void_p,
@@ -146,7 +165,7 @@ def load() -> ctypes.CDLL:
 LIBRARY = load()
 
 
-def copied(copy: Callable[[Any, int], int]) -> bytes:
+def copied(copy: Callable[[Any, int], Any]) -> bytes:
     """The bytes of a call that copies them to a buffer and returns how many there are."""
     length = copy((c_uint8 * 1)(), 0)
     buffer = (c_uint8 * max(length, 1))()
@@ -180,10 +199,14 @@ class ReadHandle:
 
     def read(self, file: bytes) -> int:
         """Reads a grammar file. Returns the status."""
-        status: int = getattr(LIBRARY, f"{self.calls}_read")(file, len(file), byref(self.raw))
+        status: int = getattr(LIBRARY, f"{self.calls}_read")(file, len(file), *self._words(), byref(self.raw))
         if status == OUT_OF_MEMORY:
             raise MemoryError("no memory for a grammar")
         return status
+
+    def _words(self) -> Tuple[Any, ...]:
+        """More arguments of the call that reads a grammar file."""
+        return ()
 
     def share(self: AnyHandle) -> AnyHandle:
         """Another handle that shares what this one holds, in constant time."""
@@ -196,10 +219,46 @@ class ReadHandle:
 AnyHandle = TypeVar("AnyHandle", bound=ReadHandle)
 
 
-class GrammarHandle(ReadHandle):
+class ParsingHandle(ReadHandle):
+    """A handle that parses texts."""
+
+    # The name of its call for a parse.
+    parse_call: ClassVar[str]
+
+    def parse(
+        self, text: bytes, first: int, options: Options, with_nodes: bool
+    ) -> Tuple[int, Optional[RawAnswer]]:
+        """Parses a text from an offset. Returns the status, and the answer if there is one."""
+        found = Handle()
+        try:
+            status = getattr(LIBRARY, self.parse_call)(
+                byref(self.raw), address(text, first), len(text) - first, *options.words(), byref(found)
+            )
+            return status, raw_answer(found, with_nodes) if status in (OK, FAILED) else None
+        finally:
+            LIBRARY.peg_match_free(byref(found))
+
+
+class ParserHandle(ParsingHandle):
+    """A handle of a parser that makes the root and the nodes of some rules. `shown` has a byte for each rule, which is
+    0 if its nodes aren't made."""
+
+    calls = "peg_parser"
+    parse_call = "peg_parser_parse"
+
+    def __init__(self, shown: bytes = b"") -> None:
+        super().__init__()
+        self._shown = shown
+
+    def _words(self) -> Tuple[Any, ...]:
+        return self._shown, len(self._shown)
+
+
+class GrammarHandle(ParsingHandle):
     """A handle of a grammar, or of a refusal."""
 
     calls = "peg_grammar"
+    parse_call = "peg_parse"
 
     def refusal(self) -> bytes:
         """The line of JSON that says why the file was refused."""
@@ -218,18 +277,17 @@ class GrammarHandle(ReadHandle):
     def _name(self, rule: int) -> str:
         return copied(lambda out, length: LIBRARY.peg_rule_name(byref(self.raw), rule, out, length)).decode("ascii")
 
-    def parse(
-        self, text: bytes, first: int, options: Options, with_nodes: bool
-    ) -> Tuple[int, Optional[RawAnswer]]:
-        """Parses a text from an offset. Returns the status, and the answer if there is one."""
-        found = Handle()
-        try:
-            status = LIBRARY.peg_parse(
-                byref(self.raw), address(text, first), len(text) - first, *options.words(), byref(found)
-            )
-            return status, raw_answer(found, with_nodes) if status in (OK, FAILED) else None
-        finally:
-            LIBRARY.peg_match_free(byref(found))
+    def code(self) -> Tuple[int, bytes]:
+        """The line of the grammar's code, after the status."""
+        return line_of(lambda out: LIBRARY.peg_code(byref(self.raw), out))
+
+    def table(self) -> Tuple[int, bytes]:
+        """The line of what the rules can do, after the status."""
+        return line_of(lambda out: LIBRARY.peg_table(byref(self.raw), out))
+
+    def warnings(self, start: bytes, proved: bool) -> Tuple[int, bytes]:
+        """The line of the warnings, after the status."""
+        return line_of(lambda out: LIBRARY.peg_lint(byref(self.raw), start, len(start), proved, out))
 
 
 class ExplainerHandle(ReadHandle):
@@ -248,6 +306,16 @@ class ExplainerHandle(ReadHandle):
             return status, raw_explanation(found) if status == FAILED else None
         finally:
             LIBRARY.peg_explanation_free(byref(found))
+
+
+def line_of(make: Callable[[Any], Any]) -> Tuple[int, bytes]:
+    """The bytes of a line that a call stores in a handle, after its status. There are none if it stores none."""
+    line = Handle()
+    try:
+        status = make(byref(line))
+        return status, copied(lambda out, length: LIBRARY.peg_line_text(byref(line), out, length))
+    finally:
+        LIBRARY.peg_line_free(byref(line))
 
 
 class Shared(Generic[AnyHandle]):

@@ -141,7 +141,7 @@ class Node(Generic[AnyText]):
     __slots__ = ("_match", "_number")
 
     def __init__(self, match: Match[AnyText], number: int) -> None:
-        self._match = match
+        self._match: Match[AnyText] = match
         self._number = number
 
     @property

@@ -8,8 +8,7 @@ ends before the number of the node plus its size.
 from __future__ import annotations
 
 import array
-import bisect
-from typing import FrozenSet, Iterator, List
+from typing import List
 
 from ._library import RawAnswer
 
@@ -25,31 +24,6 @@ def shifted(raw: RawAnswer, first: int) -> RawAnswer:
         offsets = (offset + first for offset in raw.nodes[column::WORDS])
         raw.nodes[column::WORDS] = memoryview(array.array("I", offsets))
     return raw._replace(furthest=raw.furthest + first)
-
-
-def selected(raw: RawAnswer, hidden: FrozenSet[int]) -> RawAnswer:
-    """An answer without the nodes of hidden rules, but with the root. Takes time linear in the nodes, unless no rule is
-    hidden."""
-    if not hidden:
-        return raw
-    rules = raw.nodes[RULE::WORDS]
-    kept = [number for number, rule in enumerate(rules) if number == 0 or rule not in hidden]
-    words = array.array("I")
-    for node in selected_nodes(raw.nodes, kept):
-        words.extend(node)
-    return raw._replace(nodes=memoryview(words))
-
-
-def selected_nodes(nodes: memoryview, kept: List[int]) -> Iterator[List[int]]:
-    """The words of nodes whose numbers are kept, with levels and sizes in the smaller tree."""
-    ends: List[int] = []
-    for number, old in enumerate(kept):
-        rule, start, end, _, size, _ = nodes[WORDS * old : WORDS * (old + 1)]
-        while ends and ends[-1] <= number:
-            ends.pop()
-        subtree = bisect.bisect_left(kept, old + size, number) - number
-        ends.append(number + subtree)
-        yield [rule, start, end, len(ends), subtree, 0]
 
 
 def numbers_of(nodes: memoryview, rule: int) -> List[int]:

@@ -4,6 +4,7 @@ PEGTOOL names the program; by default it is the one that `make run` builds. With
 """
 
 import glob
+import json
 import os
 import subprocess
 import unittest
@@ -42,6 +43,30 @@ class Program(unittest.TestCase):
                 self.assertEqual(rows + "\n", self.line("parse", path, text, "--rows"), text)
                 compared += 1
         self.assertGreater(compared, 40)
+
+    def test_what_is_known_of_examples_is_what_the_program_prints(self):
+        for path in grammars():
+            grammar = Grammar.from_file(path)
+            self.assertEqual(grammar.code(), json.loads(self.line("code", path)), path)
+            self.assertEqual({"table": grammar.table()}, json.loads(self.line("table", path)), path)
+            self.assertEqual({"warnings": grammar.warnings()}, json.loads(self.line("lint", path)), path)
+            proved = json.loads(self.line("lint", path, "--proved"))
+            self.assertEqual({"warnings": grammar.warnings(grammar.rules[0], proved=True)}, proved, path)
+
+    def test_lines_of_examples_without_the_nodes_of_a_rule_are_those_of_the_program(self):
+        for path in grammars():
+            grammar = Grammar.from_file(path)
+            for text in texts(path)[:2]:
+                with open(text, "rb") as file:
+                    data = file.read()
+                for words, options in (
+                    (("--rows", "--hide", grammar.rules[-1]), {"hide": grammar.rules[-1:]}),
+                    (("--rows", "--show", grammar.rules[-1]), {"show": grammar.rules[-1:]}),
+                    (("--no-tree",), {"tree": False}),
+                ):
+                    answer = grammar.match(data, **options)
+                    rows = answer.to_json(rows=True) if answer else answer.to_json()
+                    self.assertEqual(rows + "\n", self.line("parse", path, text, *words), (text, words))
 
     def test_refusals_are_those_of_the_program(self):
         for source in (b"A <- [a-]", b"A <- 'x'{0}\n", b"A <- B\n", b"A <- A\n", b"A <- ('a'*)*\n", b"A <- 'a' A <- 'b'"):

@@ -46,6 +46,33 @@ class Grammars(unittest.TestCase):
         self.assertRegex(version(), r"^\d+\.\d+\.\d+$")
 
 
+class Known(unittest.TestCase):
+    """What is known of a grammar. The lines are in docs/USAGE.md and docs/LINT.md, or follow from them."""
+
+    def test_the_code_is_that_of_pegtool(self):
+        code = [["end"], ["choice", 5], ["test", 0, [[97, 97]]], ["call", 0], ["commit", 6]]
+        code += [["test", 1, [[98, 98]]], ["ret"]]
+        self.assertEqual(Grammar(CHAIN).code(), {"code": code, "entries": [1]})
+
+    def test_the_table_has_an_entry_for_each_rule(self):
+        table = Grammar("A <- B?\nB <- 'b'\n").table()
+        self.assertEqual(table[0], {"fails": False, "nothing": True, "rule": "A", "something": True})
+        self.assertEqual(table[1], {"fails": True, "nothing": False, "rule": "B", "something": True})
+
+    def test_warnings_depend_on_the_start(self):
+        grammar = Grammar("S <- 'a' T\nT <- 'a' / 'ab'\n")
+        self.assertEqual([warning["kind"] for warning in grammar.warnings()], ["Shadowed"])
+        kinds = [(warning["kind"], warning["rule"]) for warning in grammar.warnings("T")]
+        self.assertEqual(kinds, [("UnusedRule", "S"), ("Shadowed", "T")])
+        self.assertRaises(NoSuchRuleError, grammar.warnings, "U")
+        self.assertRaises(TypeError, grammar.warnings, b"T")
+
+    def test_habits_are_no_proved_warnings(self):
+        grammar = Grammar("S <- T .\nT <- 'a'\n")
+        self.assertEqual([warning["kind"] for warning in grammar.warnings()], ["AnyAtEnd"])
+        self.assertEqual(grammar.warnings(proved=True), [])
+
+
 class Refusals(unittest.TestCase):
     def refusal(self, source):
         with self.assertRaises(GrammarError) as caught:

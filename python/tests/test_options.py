@@ -2,8 +2,10 @@
 
 import pathlib
 import tempfile
+import threading
 import unittest
 
+from pegtool import _library
 from pegtool import Failure, Grammar, Match, NoSuchRuleError, ParseError, Text
 
 # The grammar and the text are those of docs/USAGE.md, section "Shown and hidden rules".
@@ -85,6 +87,63 @@ class Selection(unittest.TestCase):
 
     def test_a_failure_has_no_nodes_to_select(self):
         self.assertIsInstance(Grammar(LETTERS).match("x", hide=["A"]), Failure)
+
+
+    def test_hidden_nodes_are_not_made(self):
+        grammar = Grammar(LETTERS)
+        with Counted("peg_parser_parse") as counted:
+            grammar.parse(TEXT, hide=["A"])
+            grammar.parse(TEXT, tree=False)
+            grammar.parse(TEXT)
+        self.assertEqual(counted.calls, 2)
+
+    def test_a_grammar_is_compiled_once_for_hidden_rules_that_are_asked_for_again(self):
+        grammar = Grammar(LETTERS)
+        with Counted("peg_parser_read") as counted:
+            for _ in range(3):
+                grammar.parse(TEXT, hide=["A"])
+                grammar.parse(TEXT, show=["S", "C", "B", "D"])
+                grammar.parse(TEXT, tree=False)
+                grammar.parse(TEXT, show=[])
+        self.assertEqual(counted.calls, 2)
+
+    def test_the_parsers_that_were_asked_for_last_are_kept(self):
+        names = [f"R{number}" for number in range(9)]
+        grammar = Grammar(f"S <- {' '.join(names)}\n" + "".join(f"{name} <- 'a'\n" for name in names))
+        with Counted("peg_parser_read") as counted:
+            for rule in [*grammar.rules[1:], *grammar.rules[1:3], grammar.rules[9]]:
+                self.assertEqual(len(grammar.parse("a" * 9, hide=[rule]).rows), 9)
+        self.assertEqual(counted.calls, 11)
+
+    def test_threads_share_a_parser(self):
+        grammar, found = Grammar(LETTERS, hide=["A"]), []
+        with Counted("peg_parser_read") as counted:
+            threads = [threading.Thread(target=lambda: found.append(len(grammar.parse(TEXT).rows))) for _ in range(8)]
+            for thread in threads:
+                thread.start()
+            for thread in threads:
+                thread.join()
+        self.assertEqual((found, counted.calls), ([5] * 8, 1))
+
+
+class Counted:
+    """Counts the calls of a function of the library, while it is entered."""
+
+    def __init__(self, name):
+        self.library = _library.LIBRARY
+        self.name = name
+        self.calls = 0
+
+    def __enter__(self):
+        _library.LIBRARY = self
+        return self
+
+    def __exit__(self, *error):
+        _library.LIBRARY = self.library
+
+    def __getattr__(self, name):
+        self.calls += name == self.name
+        return getattr(self.library, name)
 
 
 class NoTree(unittest.TestCase):

@@ -1,5 +1,6 @@
 /* memory GRAMMAR TEXT: refuses each request for memory of a reading, a parse, an explanation, the same by an explainer,
- * and of sharing a handle in turn, alone and with all later ones. Each call has to return PEG_OUT_OF_MEMORY, leave the
+ * of reading a parser of no rules and a parse by it, of lines about the grammar, and of sharing a handle in turn, alone
+ * and with all later ones. Each call has to return PEG_OUT_OF_MEMORY, leave the
  * handles as they were and release what it requested, or to have the answer. It makes at most ten times the requests
  * and the steps that it takes without a refusal. The text to be explained is all but the last byte of TEXT. Link it
  * with the linker's options --wrap=malloc, --wrap=realloc and --wrap=free. */
@@ -199,6 +200,72 @@ static void refuse_in_explainers(const uint8_t *file, size_t file_length, const 
            explanation, is_lasting ? ", each with all later ones" : "");
 }
 
+static long refuse_in_reading_a_parser(const uint8_t *file, size_t length) {
+    for (long n = -1;; n++) {
+        peg_parser parser = PEG_NULL;
+        long before = blocks;
+        refuse_request(n);
+        uint32_t status = peg_parser_read(file, length, (const uint8_t *)"", 0, &parser);
+        int more = was_refused(status == PEG_OK, status, parser.opaque == NULL, before, n);
+        peg_parser_free(&parser);
+        if (!more) {
+            return n;
+        }
+    }
+}
+
+static long refuse_in_parsing_by(peg_parser *parser, const uint8_t *text, size_t length, uint32_t memo) {
+    for (long n = -1;; n++) {
+        peg_match match = PEG_NULL;
+        long before = blocks;
+        void *held = parser->opaque;
+        refuse_request(n);
+        uint32_t status = peg_parser_parse(parser, text, length, (const uint8_t *)"", 0, memo, 0, &match);
+        int has_answer = status == PEG_OK || status == PEG_FAILED;
+        int more = was_refused(has_answer, status, match.opaque == NULL && parser->opaque == held, before, n);
+        if (has_answer) {
+            count_steps(&match, n);
+        }
+        peg_match_free(&match);
+        if (!more) {
+            return n;
+        }
+    }
+}
+
+static void refuse_in_parsers(const uint8_t *file, size_t file_length, const uint8_t *text, size_t text_length) {
+    long reading = refuse_in_reading_a_parser(file, file_length);
+    peg_parser parser = PEG_NULL;
+    most_requests = 0;
+    if (peg_parser_read(file, file_length, (const uint8_t *)"", 0, &parser) != PEG_OK) {
+        fail("the parser is refused", 0);
+    }
+    long parse = refuse_in_parsing_by(&parser, text, text_length, PEG_DEFAULT_MEMO);
+    peg_parser_free(&parser);
+    printf("memory: refused %ld requests of reading a parser, %ld of a parse by it%s\n", reading, parse,
+           is_lasting ? ", each with all later ones" : "");
+}
+
+static uint32_t lint(peg_grammar *grammar, peg_line *out) {
+    return peg_lint(grammar, (const uint8_t *)"", 0, 0, out);
+}
+
+static long refuse_in_a_line(peg_grammar *grammar, uint32_t (*make)(peg_grammar *, peg_line *)) {
+    for (long n = -1;; n++) {
+        peg_line line = PEG_NULL;
+        long before = blocks;
+        void *held = grammar->opaque;
+        refuse_request(n);
+        uint32_t status = make(grammar, &line);
+        int is_unchanged = line.opaque == NULL && grammar->opaque == held;
+        int more = was_refused(status == PEG_OK, status, is_unchanged, before, n);
+        peg_line_free(&line);
+        if (!more) {
+            return n;
+        }
+    }
+}
+
 static long refuse_in_sharing(peg_grammar *grammar) {
     for (long n = -1;; n++) {
         peg_grammar other = PEG_NULL;
@@ -229,10 +296,12 @@ static void refuse_in_calls(const uint8_t *file, size_t file_length, const uint8
     long parse = refuse_in_parsing(&grammar, text, text_length, PEG_DEFAULT_MEMO);
     long explanation = refuse_in_explaining(&grammar, text, text_length - 1, PEG_DEFAULT_MEMO);
     long sharing = refuse_in_sharing(&grammar);
+    long lines = refuse_in_a_line(&grammar, peg_code) + refuse_in_a_line(&grammar, peg_table) +
+                 refuse_in_a_line(&grammar, lint);
     peg_grammar_free(&grammar);
     printf("memory: refused %ld requests of a reading, %ld of a refusal, %ld of a parse, %ld of an explanation, %ld of "
-           "sharing%s\n",
-           reading, refusal, parse, explanation, sharing, is_lasting ? ", each with all later ones" : "");
+           "lines, %ld of sharing%s\n",
+           reading, refusal, parse, explanation, lines, sharing, is_lasting ? ", each with all later ones" : "");
 }
 
 int main(int argc, char **argv) {
@@ -247,6 +316,7 @@ int main(int argc, char **argv) {
     for (is_lasting = 0; is_lasting <= 1; is_lasting++) {
         refuse_in_calls(file, file_length, text, text_length);
         refuse_in_explainers(file, file_length, text, text_length);
+        refuse_in_parsers(file, file_length, text, text_length);
     }
     if (blocks != live) {
         fail("memory is left", blocks - live);

@@ -263,6 +263,134 @@ static void names_and_positions_fit_their_buffers(void) {
     CHECK(peg_version(name, 4) == 5 && name[0] == '0' && name[1] == '.');
 }
 
+static uint32_t parse_shown(peg_parser *parser, const char *text, const char *start, uint64_t steps, peg_match *out) {
+    return peg_parser_parse(parser, bytes(text), strlen(text), bytes(start), strlen(start), PEG_DEFAULT_MEMO, steps,
+                            out);
+}
+
+/* The grammar and the text are those of docs/USAGE.md, section "Shown and hidden rules". */
+static void trees_have_the_shown_nodes(void) {
+    const char *file = "S <- A B\nA <- 'a' C\nC <- 'c'\nB <- 'b' D D\nD <- 'd'\n";
+    const uint8_t shown[5] = {0, 0, 1, 0, 255};
+    peg_parser parser = PEG_NULL, other = PEG_NULL;
+    peg_match match = PEG_NULL;
+    peg_summary summary = {9, 9, 9, 9, 9, 9};
+    peg_node nodes[5] = {{9, 9, 9, 9, 9}, {9, 9, 9, 9, 9}, {9, 9, 9, 9, 9}, {9, 9, 9, 9, 9}, {9, 9, 9, 9, 9}};
+    CHECK(parse_shown(&parser, "a", "", 0, &match) == PEG_WRONG_HANDLE && match.opaque == NULL);
+    CHECK(peg_parser_share(&parser, &other) == PEG_WRONG_HANDLE && other.opaque == NULL);
+    CHECK(peg_parser_read(bytes("S <- T"), 6, shown, 5, &parser) == PEG_REFUSED && parser.opaque == NULL);
+    CHECK(peg_parser_read(bytes(file), strlen(file), shown, 5, &parser) == PEG_OK);
+    CHECK(parse_shown(&parser, "acbdd", "", 0, &match) == PEG_OK);
+    CHECK(peg_match_summary(&match, &summary) == PEG_OK && summary.consumed == 5 && summary.nodes == 4);
+    CHECK(peg_match_nodes(&match, 0, nodes, 5) == 4 && nodes[4].size == 9);
+    CHECK(nodes[0].rule == 0 && nodes[0].end == 5 && nodes[0].level == 1 && nodes[0].size == 4);
+    CHECK(nodes[1].rule == 2 && nodes[1].start == 1 && nodes[1].end == 2 && nodes[1].level == 2);
+    CHECK(nodes[3].rule == 4 && nodes[3].start == 4 && nodes[3].end == 5 && nodes[3].size == 1);
+    CHECK(peg_parser_share(&parser, &other) == PEG_OK);
+    CHECK(peg_parser_read(bytes(file), strlen(file), shown, 0, &parser) == PEG_OK);
+    CHECK(parse_shown(&parser, "acbdd", "B", 0, &match) == PEG_FAILED);
+    CHECK(parse_shown(&parser, "acbdd", "", 0, &match) == PEG_OK);
+    CHECK(peg_match_summary(&match, &summary) == PEG_OK && summary.consumed == 5 && summary.nodes == 1);
+    CHECK(parse_shown(&other, "acbdd", "", 0, &match) == PEG_OK);
+    CHECK(peg_match_summary(&match, &summary) == PEG_OK && summary.nodes == 4);
+    void *before = match.opaque;
+    CHECK(parse_shown(&parser, "a", "E", 0, &match) == PEG_NO_SUCH_START && match.opaque == before);
+    CHECK(parse_shown(&parser, "acbdd", "", 2, &match) == PEG_STEP_LIMIT && match.opaque == before);
+    CHECK(parse((peg_grammar *)&parser, "a", "", 0, &match) == PEG_WRONG_HANDLE && match.opaque == before);
+    peg_parser_free(&parser);
+    peg_parser_free(&other);
+    CHECK(parser.opaque == NULL && other.opaque == NULL);
+    peg_match_free(&match);
+}
+
+/* A failure has the furthest failure and the spans that `peg_parse` gives. */
+static void shown_rules_change_no_failure(void) {
+    peg_parser parser = PEG_NULL;
+    peg_match match = PEG_NULL;
+    peg_summary summary = {9, 9, 9, 9, 9, 9};
+    peg_span spans[3] = {{9, 9}, {9, 9}, {9, 9}};
+    CHECK(peg_parser_read(bytes("S <- 'a' S / B\nB <- 'b'"), 23, bytes(""), 0, &parser) == PEG_OK);
+    CHECK(parse_shown(&parser, "ac", "", 0, &match) == PEG_FAILED);
+    CHECK(peg_match_summary(&match, &summary) == PEG_OK && summary.furthest == 1 && summary.expected == 2);
+    CHECK(peg_match_expected(&match, 0, spans, 3) == 2 && spans[0].start == 5 && spans[0].end == 8);
+    CHECK(spans[1].start == 20 && spans[1].end == 23 && spans[2].end == 9);
+    peg_match_free(&match);
+    peg_parser_free(&parser);
+}
+
+/* The text of a line handle is this string. */
+static int is_line(peg_line *line, const char *expected) {
+    uint8_t text[200] = {0};
+    return peg_line_text(line, text, sizeof text) == strlen(expected) && strcmp((char *)text, expected) == 0;
+}
+
+/* The lines are in docs/USAGE.md and docs/LINT.md, or follow from them. */
+static void lines_are_those_of_pegtool(void) {
+    peg_grammar grammar = PEG_NULL;
+    peg_line line = PEG_NULL, other = PEG_NULL;
+    uint8_t byte = 9;
+    CHECK(peg_code(&grammar, &line) == PEG_WRONG_HANDLE && peg_table(&grammar, &line) == PEG_WRONG_HANDLE);
+    CHECK(peg_lint(&grammar, bytes(""), 0, 0, &line) == PEG_WRONG_HANDLE && line.opaque == NULL);
+    CHECK(peg_line_text(&line, &byte, 1) == 0 && byte == 9);
+    CHECK(peg_line_share(&line, &other) == PEG_WRONG_HANDLE && other.opaque == NULL);
+    CHECK(read_grammar("S <- 'a' S / 'b'", &grammar) == PEG_OK);
+    CHECK(peg_code(&grammar, &line) == PEG_OK);
+    CHECK(is_line(&line, "{\"code\":[[\"end\"],[\"choice\",5],[\"test\",0,[[97,97]]],[\"call\",0],[\"commit\",6],"
+                         "[\"test\",1,[[98,98]]],[\"ret\"]],\"entries\":[1]}"));
+    CHECK(peg_line_share(&line, &other) == PEG_OK);
+    CHECK(peg_table(&grammar, &line) == PEG_OK);
+    CHECK(is_line(&line, "{\"table\":[{\"fails\":true,\"nothing\":false,\"rule\":\"S\",\"something\":true}]}"));
+    CHECK(peg_line_text(&other, &byte, 1) == 119 && byte == '{');
+    CHECK(peg_lint(&grammar, bytes("S"), 1, 0, &line) == PEG_OK && is_line(&line, "{\"warnings\":[]}"));
+    void *before = line.opaque;
+    CHECK(peg_lint(&grammar, bytes("T"), 1, 0, &line) == PEG_NO_SUCH_START && line.opaque == before);
+    CHECK(peg_code((peg_grammar *)&line, &other) == PEG_WRONG_HANDLE);
+    CHECK(peg_line_text((peg_line *)&grammar, &byte, 1) == 0);
+    peg_line_free(&other);
+    peg_line_free(&line);
+    CHECK(line.opaque == NULL && other.opaque == NULL);
+    peg_grammar_free(&grammar);
+}
+
+/* Warnings depend on the start, and habits of other notations aren't proved (docs/LINT.md). */
+static void warnings_are_selected(void) {
+    peg_grammar grammar = PEG_NULL;
+    peg_line line = PEG_NULL;
+    CHECK(read_grammar("S <- 'a' / 'ab'", &grammar) == PEG_OK);
+    CHECK(peg_lint(&grammar, bytes(""), 0, 1, &line) == PEG_OK);
+    CHECK(is_line(&line, "{\"warnings\":[{\"by\":[5,8],\"column\":12,\"end\":15,\"kind\":\"Shadowed\",\"line\":1,"
+                         "\"proved\":true,\"rule\":\"S\",\"start\":11}]}"));
+    CHECK(read_grammar("S <- T .\nT <- 'a'", &grammar) == PEG_OK);
+    CHECK(peg_lint(&grammar, bytes(""), 0, 1, &line) == PEG_OK && is_line(&line, "{\"warnings\":[]}"));
+    CHECK(peg_lint(&grammar, bytes(""), 0, 0, &line) == PEG_OK && !is_line(&line, "{\"warnings\":[]}"));
+    CHECK(peg_lint(&grammar, bytes("T"), 1, 1, &line) == PEG_OK && !is_line(&line, "{\"warnings\":[]}"));
+    peg_line_free(&line);
+    peg_grammar_free(&grammar);
+}
+
+static void rules_have_numbers(void) {
+    peg_grammar grammar = PEG_NULL;
+    uint32_t number = 9;
+    CHECK(peg_rule_number(&grammar, bytes("S"), 1, &number) == PEG_WRONG_HANDLE && number == 9);
+    CHECK(read_grammar("Start <- End\nEnd <- 'b'", &grammar) == PEG_OK);
+    CHECK(peg_rule_number(&grammar, bytes("End"), 3, &number) == PEG_OK && number == 1);
+    CHECK(peg_rule_number(&grammar, bytes("Start"), 5, &number) == PEG_OK && number == 0);
+    number = 9;
+    CHECK(peg_rule_number(&grammar, bytes("En"), 2, &number) == PEG_NO_SUCH_RULE && number == 9);
+    CHECK(peg_rule_number(&grammar, bytes(""), 0, &number) == PEG_NO_SUCH_RULE && number == 9);
+    CHECK(peg_rule_number(&grammar, bytes("\xff"), 1, &number) == PEG_NO_SUCH_RULE && number == 9);
+    peg_grammar_free(&grammar);
+}
+
+static void statuses_have_names(void) {
+    uint8_t name[20] = {0};
+    CHECK(peg_status_name(PEG_OK, name, sizeof name) == 6 && strcmp((char *)name, "PEG_OK") == 0);
+    CHECK(peg_status_name(PEG_TEXT_TOO_LONG, name, sizeof name) == 17);
+    CHECK(strcmp((char *)name, "PEG_TEXT_TOO_LONG") == 0);
+    CHECK(peg_status_name(PEG_NO_SUCH_RULE, name, 4) == 16 && memcmp(name, "PEG_TEXT", 8) == 0);
+    CHECK(peg_status_name(10, name, sizeof name) == 0 && peg_status_name(UINT32_MAX, name, sizeof name) == 0);
+}
+
 int main(void) {
     null_handles_give_nothing();
     null_explanations_give_nothing();
@@ -273,6 +401,12 @@ int main(void) {
     parses_have_their_statuses();
     explanations_have_their_statuses();
     names_and_positions_fit_their_buffers();
+    trees_have_the_shown_nodes();
+    shown_rules_change_no_failure();
+    lines_are_those_of_pegtool();
+    warnings_are_selected();
+    rules_have_numbers();
+    statuses_have_names();
     printf("misuse: %d tests, %d failed\n", tests, failures);
     return failures != 0;
 }

@@ -1,6 +1,6 @@
-/* shared GRAMMAR TEXT: two threads, and then eight, use handles that share a grammar, a match, an explanation and an
- * explainer. Their answers have to be the answers of one thread, and the explanations of the explainer those of the
- * grammar. The text to be explained is all but the last byte of TEXT.
+/* shared GRAMMAR TEXT: two threads, and then eight, use handles that share a grammar, a match, an explanation, an
+ * explainer and a parser. Their answers have to be the answers of one thread, and the explanations of the explainer
+ * those of the grammar. The text to be explained is all but the last byte of TEXT.
  *
  * The handles of a thread are made by the main thread, which then frees its own while they run. So the last of them to
  * end frees the grammar. Each thread leaves handles behind that it made: another thread uses and frees them. */
@@ -19,6 +19,7 @@ struct task {
     peg_match match, made_match;
     peg_explanation explanation, made_explanation;
     peg_explainer explainer, made_explainer;
+    peg_parser parser, made_parser;
     uint64_t sum;
 };
 
@@ -79,8 +80,30 @@ static uint64_t sum_by_explainer(peg_explainer *explainer) {
     return sum;
 }
 
+/* Uses another handle of a parser, and one of a line. */
+static uint64_t sum_by_parser(peg_grammar *grammar, peg_parser *parser) {
+    peg_parser other = PEG_NULL;
+    peg_line line = PEG_NULL, other_line = PEG_NULL;
+    peg_match match = PEG_NULL;
+    uint8_t bytes[1000] = {0};
+    expect(peg_parser_share(parser, &other) == PEG_OK, "a parser isn't shared");
+    uint32_t status = peg_parser_parse(&other, text, text_length, text, 0, PEG_DEFAULT_MEMO, 0, &match);
+    expect(status == PEG_OK, "no match by a parser");
+    expect(peg_table(grammar, &line) == PEG_OK && peg_line_share(&line, &other_line) == PEG_OK, "no line");
+    peg_line_free(&line);
+    uint64_t sum = sum_of_match(&match) * 31 + peg_line_text(&other_line, bytes, sizeof bytes);
+    for (size_t i = 0; i < sizeof bytes; i++) {
+        sum = sum * 31 + bytes[i];
+    }
+    peg_line_free(&other_line);
+    peg_match_free(&match);
+    peg_parser_free(&other);
+    return sum;
+}
+
 /* Uses handles by each kind of call, the new handles that it makes included. */
-static uint64_t use(peg_grammar *grammar, peg_match *match, peg_explanation *explanation, peg_explainer *explainer) {
+static uint64_t use(peg_grammar *grammar, peg_match *match, peg_explanation *explanation, peg_explainer *explainer,
+                    peg_parser *parser) {
     peg_grammar other_grammar = PEG_NULL;
     peg_match other_match = PEG_NULL;
     peg_explanation other_explanation = PEG_NULL;
@@ -90,6 +113,7 @@ static uint64_t use(peg_grammar *grammar, peg_match *match, peg_explanation *exp
     expect(peg_match_share(match, &other_match) == PEG_OK, "a match isn't shared");
     expect(peg_explanation_share(explanation, &other_explanation) == PEG_OK, "an explanation isn't shared");
     uint64_t sum = sum_of_match(&other_match) * 31 + sum_of_explanation(&other_explanation);
+    sum = sum * 31 + sum_by_parser(&other_grammar, parser);
     parse(&other_grammar, &other_match);
     explain(&other_grammar, &other_explanation);
     sum = (sum * 31 + sum_of_match(&other_match)) * 31 + sum_of_explanation(&other_explanation);
@@ -105,16 +129,19 @@ static uint64_t use(peg_grammar *grammar, peg_match *match, peg_explanation *exp
 static void *run(void *argument) {
     struct task *task = argument;
     for (int round = 0; round < ROUNDS; round++) {
-        task->sum = task->sum * 31 + use(&task->grammar, &task->match, &task->explanation, &task->explainer);
+        task->sum = task->sum * 31 +
+                    use(&task->grammar, &task->match, &task->explanation, &task->explainer, &task->parser);
     }
     expect(peg_grammar_share(&task->grammar, &task->made_grammar) == PEG_OK, "a grammar isn't shared");
     expect(peg_explainer_share(&task->explainer, &task->made_explainer) == PEG_OK, "an explainer isn't shared");
+    expect(peg_parser_share(&task->parser, &task->made_parser) == PEG_OK, "a parser isn't shared");
     parse(&task->grammar, &task->made_match);
     explain(&task->grammar, &task->made_explanation);
     peg_grammar_free(&task->grammar);
     peg_match_free(&task->match);
     peg_explanation_free(&task->explanation);
     peg_explainer_free(&task->explainer);
+    peg_parser_free(&task->parser);
     return NULL;
 }
 
@@ -122,11 +149,13 @@ static void *run(void *argument) {
 static void *take_over(void *argument) {
     struct task *task = argument;
     task->sum = task->sum * 31 +
-                use(&task->made_grammar, &task->made_match, &task->made_explanation, &task->made_explainer);
+                use(&task->made_grammar, &task->made_match, &task->made_explanation, &task->made_explainer,
+                    &task->made_parser);
     peg_grammar_free(&task->made_grammar);
     peg_match_free(&task->made_match);
     peg_explanation_free(&task->made_explanation);
     peg_explainer_free(&task->made_explainer);
+    peg_parser_free(&task->made_parser);
     return NULL;
 }
 
@@ -136,10 +165,10 @@ static void start(pthread_t *thread, void *(*function)(void *), struct task *tas
 
 /* Runs threads that share what these handles hold, and frees the handles. Returns the number of other answers. */
 static int run_threads(int count, peg_grammar grammar, peg_match match, peg_explanation explanation,
-                       peg_explainer explainer) {
+                       peg_explainer explainer, peg_parser parser) {
     struct task tasks[MOST_THREADS];
     pthread_t threads[MOST_THREADS];
-    uint64_t one = use(&grammar, &match, &explanation, &explainer), want = 0;
+    uint64_t one = use(&grammar, &match, &explanation, &explainer, &parser), want = 0;
     int wrong = 0;
     memset(tasks, 0, sizeof tasks);
     for (int i = 0; i < count; i++) {
@@ -147,12 +176,14 @@ static int run_threads(int count, peg_grammar grammar, peg_match match, peg_expl
         expect(peg_match_share(&match, &tasks[i].match) == PEG_OK, "a match isn't shared");
         expect(peg_explanation_share(&explanation, &tasks[i].explanation) == PEG_OK, "an explanation isn't shared");
         expect(peg_explainer_share(&explainer, &tasks[i].explainer) == PEG_OK, "an explainer isn't shared");
+        expect(peg_parser_share(&parser, &tasks[i].parser) == PEG_OK, "a parser isn't shared");
         start(&threads[i], run, &tasks[i]);
     }
     peg_grammar_free(&grammar);
     peg_match_free(&match);
     peg_explanation_free(&explanation);
     peg_explainer_free(&explainer);
+    peg_parser_free(&parser);
     for (int i = 0; i < count; i++) {
         pthread_join(threads[i], NULL);
         start(&threads[i], take_over, &tasks[i]);
@@ -198,7 +229,10 @@ int main(int argc, char **argv) {
         explain(&grammar, &explanation);
         peg_explainer explainer = PEG_NULL;
         expect(peg_explainer_read(file, file_length, &explainer) == PEG_OK, "the explainer is refused");
-        wrong += run_threads(counts[i], grammar, match, explanation, explainer);
+        peg_parser parser = PEG_NULL;
+        const uint8_t shown[2] = {0, 1};
+        expect(peg_parser_read(file, file_length, shown, 2, &parser) == PEG_OK, "the parser is refused");
+        wrong += run_threads(counts[i], grammar, match, explanation, explainer, parser);
     }
     printf("shared: 2 and %d threads, %d wrong\n", MOST_THREADS, wrong);
     free(text);

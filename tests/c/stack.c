@@ -1,4 +1,5 @@
-/* stack: no call takes more than 240 KiB of the caller's stack, for grammar files that nest as deep as a file may.
+/* stack: no call takes more than 240 KiB of the caller's stack, and peg_lint no more than 272, for grammar files that
+ * nest as deep as a file may.
  *
  * Each call runs on a thread of its own with a stack of 256 KiB. The stack is filled with one byte before, and what is
  * still filled afterwards was not used. The memory below the stack is filled too, so that a call that takes more than
@@ -13,6 +14,7 @@
 
 #define LEVELS 200
 #define MOST ((size_t)245760)
+#define MOST_OF_LINT ((size_t)278528)
 #define STACK ((size_t)262144)
 #define REGION ((size_t)1048576)
 #define FILL 0xA5
@@ -58,6 +60,8 @@ static peg_grammar grammar = PEG_NULL, shared_grammar = PEG_NULL;
 static peg_match match = PEG_NULL, shared_match = PEG_NULL;
 static peg_explanation explanation = PEG_NULL, shared_explanation = PEG_NULL;
 static peg_explainer explainer = PEG_NULL, shared_explainer = PEG_NULL;
+static peg_parser parser = PEG_NULL, shared_parser = PEG_NULL;
+static peg_line json = PEG_NULL, shared_line = PEG_NULL;
 static uint8_t line[4096];
 static uint32_t accepted, refused;
 
@@ -105,6 +109,25 @@ static void rule_count(void) {
 }
 
 static void rule_name(void) { peg_rule_name(&grammar, 0, line, sizeof line); }
+
+static void rule_number(void) {
+    uint32_t number = 0;
+    peg_rule_number(&grammar, (const uint8_t *)"S", 1, &number);
+}
+
+static void code(void) { peg_code(&grammar, &json); }
+
+static void table(void) { peg_table(&grammar, &json); }
+
+static void lint(void) { peg_lint(&grammar, TEXT, 0, 0, &json); }
+
+static void line_text(void) { peg_line_text(&json, line, sizeof line); }
+
+static void read_parser(void) { peg_parser_read(file, file_length, TEXT, 0, &parser); }
+
+static void parse_by_parser(void) {
+    peg_parser_parse(&parser, TEXT, sizeof TEXT - 1, TEXT, 0, PEG_DEFAULT_MEMO, STEPS, &match);
+}
 
 static void parse(void) { peg_parse(&grammar, TEXT, sizeof TEXT - 1, TEXT, 0, 0, STEPS, &match); }
 
@@ -160,6 +183,8 @@ static void locate(void) {
 
 static void version(void) { peg_version(line, sizeof line); }
 
+static void status_name(void) { peg_status_name(PEG_STEP_LIMIT, line, sizeof line); }
+
 static void share_grammar(void) { peg_grammar_share(&grammar, &shared_grammar); }
 
 static void share_match(void) { peg_match_share(&match, &shared_match); }
@@ -168,17 +193,27 @@ static void share_explanation(void) { peg_explanation_share(&explanation, &share
 
 static void share_explainer(void) { peg_explainer_share(&explainer, &shared_explainer); }
 
-/* Frees what the four handles hold, since the first handles are freed before. */
+static void share_parser(void) { peg_parser_share(&parser, &shared_parser); }
+
+static void share_line(void) { peg_line_share(&json, &shared_line); }
+
+/* Frees what these handles hold, since the first handles are freed before. */
 static void free_shared(void) {
     peg_grammar_free(&shared_grammar);
     peg_match_free(&shared_match);
     peg_explanation_free(&shared_explanation);
     peg_explainer_free(&shared_explainer);
+    peg_parser_free(&shared_parser);
+    peg_line_free(&shared_line);
 }
 
 static void free_explanation(void) { peg_explanation_free(&explanation); }
 
 static void free_explainer(void) { peg_explainer_free(&explainer); }
+
+static void free_parser(void) { peg_parser_free(&parser); }
+
+static void free_line(void) { peg_line_free(&json); }
 
 static void free_match(void) { peg_match_free(&match); }
 
@@ -195,6 +230,13 @@ static const struct {
     {"peg_grammar_refusal_info", refusal_info},
     {"peg_rule_count", rule_count},
     {"peg_rule_name", rule_name},
+    {"peg_rule_number", rule_number},
+    {"peg_code", code},
+    {"peg_table", table},
+    {"peg_lint", lint},
+    {"peg_line_text", line_text},
+    {"peg_parser_read", read_parser},
+    {"peg_parser_parse", parse_by_parser},
     {"peg_parse without a memo", parse},
     {"peg_parse with a memo", parse_by_name},
     {"peg_match_summary", summary},
@@ -209,12 +251,17 @@ static const struct {
     {"peg_explanation_expected", explained},
     {"peg_locate", locate},
     {"peg_version", version},
+    {"peg_status_name", status_name},
     {"peg_grammar_share", share_grammar},
     {"peg_match_share", share_match},
     {"peg_explanation_share", share_explanation},
     {"peg_explainer_share", share_explainer},
+    {"peg_parser_share", share_parser},
+    {"peg_line_share", share_line},
     {"peg_explanation_free", free_explanation},
     {"peg_explainer_free", free_explainer},
+    {"peg_parser_free", free_parser},
+    {"peg_line_free", free_line},
     {"peg_match_free", free_match},
     {"peg_grammar_read over a grammar", read_grammar},
     {"peg_grammar_free", free_grammar},
@@ -259,7 +306,7 @@ int main(void) {
         write_file(&SHAPES[shape]);
         for (size_t call = 0; call < COUNT(CALLS); call++) {
             size_t bytes = taken(region, call);
-            if (bytes > MOST) {
+            if (bytes > (CALLS[call].run == lint ? MOST_OF_LINT : MOST)) {
                 fprintf(stderr, "stack: %s takes %zu bytes: S <- %s .. %s .. %s\n", CALLS[call].name, bytes,
                         SHAPES[shape].open, SHAPES[shape].inside, SHAPES[shape].close);
                 wrong++;
@@ -273,8 +320,8 @@ int main(void) {
     for (size_t call = 0; call < COUNT(CALLS); call++) {
         printf("%7zu %s\n", worst[call], CALLS[call].name);
     }
-    printf("stack: %zu files, read %u times as a grammar and refused %u times, %d calls over %zu bytes\n",
-           COUNT(SHAPES), accepted, refused, wrong, MOST);
+    printf("stack: %zu files, read %u times as a grammar and refused %u times, %d calls over %zu bytes, or %zu of peg_lint\n",
+           COUNT(SHAPES), accepted, refused, wrong, MOST, MOST_OF_LINT);
     free(region);
     return wrong != 0 || accepted == 0 || refused == 0;
 }

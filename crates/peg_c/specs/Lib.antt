@@ -1,2 +1,3 @@
 pub mod HandleOwns
 pub mod Handles
+pub mod StatusNames

@@ -1,14 +1,17 @@
 //! Calls on grammar handles.
-ghost use Rattle.std.specs.Prelude.{◌≡◌, ◌≢◌, ◌≤◌, ◌<◌, ◌↔◌, ℕ, IfSome, None, Some, length, min, slice_get};
+ghost use Rattle.std.specs.Prelude.{◌≡◌, ◌≢◌, ◌≤◌, ◌<◌, ◌↔◌, ℕ, IfSome, None, Some, bytes_eq, length, min, position};
+ghost use Rattle.std.specs.Prelude.{slice_get};
 ghost use Rattle.peg_c.specs.Handles.{HoldsParserOf, HoldsRejectionOf, held_info, held_json, held_name, held_reason};
 ghost use Rattle.peg_c.specs.Handles.{held_rules};
+ghost use Rattle.peg_semantics.specs.Rules.{names};
 
 use crate::handle::Handle;
 use crate::sharing::share;
 use crate::store::store;
 use peg_handle::{
-    Content, DONE, OUT_OF_MEMORY, REFUSED, ReadFault, RefusalInfo, WRONG_HANDLE, copy_json_of,
-    copy_name_of, copy_reason_of, read, write_info, write_rule_count,
+    Content, DONE, NO_SUCH_RULE, OUT_OF_MEMORY, REFUSED, ReadFault, RefusalInfo, WRONG_HANDLE,
+    copy_json_of, copy_name_of, copy_reason_of, read, write_info, write_rule_count,
+    write_rule_number,
 };
 use std::alloc::Global;
 
@@ -164,6 +167,33 @@ pub extern "C" fn peg_rule_name(
             let length = copy_name_of(&content, rule, out);
             *grammar = Handle::new(content);
             length
+        }
+    }
+}
+
+/// Writes the number of the rule with a name.
+#[unsafe(no_mangle)]
+pub extern "C" fn peg_rule_number(
+    alloc: Global,
+    grammar: &mut Handle,
+    name: &[u8],
+    out: &mut u32,
+) -> u32
+    ensures kept { grammar.new.content ≡ grammar.old.content }
+    ensures statuses { result ≢ DONE → result ≢ WRONG_HANDLE → result ≡ NO_SUCH_RULE }
+    ensures done { result ≡ DONE → IfSome (held_rules grammar.old.content) (λ rules.
+        position (bytes_eq name.now) (names rules) ≡ Some out.new) }
+    ensures wrong { (result ≡ WRONG_HANDLE) ↔ (held_rules grammar.old.content ≡ None) }
+    ensures none { IfSome (held_rules grammar.old.content) (λ rules.
+        (result ≡ NO_SUCH_RULE) ↔ (position (bytes_eq name.now) (names rules) ≡ None)) }
+    ensures unchanged { result ≢ DONE → out.new ≡ out.old }
+{
+    match grammar.take(alloc) {
+        None => WRONG_HANDLE,
+        Some(content) => {
+            let status = write_rule_number(&content, name, out);
+            *grammar = Handle::new(content);
+            status
         }
     }
 }

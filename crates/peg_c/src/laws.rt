@@ -6,11 +6,13 @@ ghost use Rattle.peg_handle.specs.contracts.content.Content as content;
 ghost use Rattle.peg_handle.specs.contracts.content.Explanation as explanation;
 ghost use Rattle.peg_handle.specs.contracts.content.GrammarFile as grammar_file;
 ghost use Rattle.peg_handle.specs.contracts.content.Match as found;
+ghost use Rattle.peg_handle.specs.contracts.content.PrintedLine as printed_line;
 ghost use Rattle.peg_handle.specs.contracts.content.Rejection as rejection;
+ghost use Rattle.peg_handle.specs.contracts.content.SelectingParser as selecting_parser;
 ghost use Rattle.peg_handle.specs.contracts.content.TextExplainer as text_explainer;
 
 use peg_blame::BlameParser;
-use peg_handle::{Explanation, GrammarFile, Match, Rejection};
+use peg_handle::{Explanation, GrammarFile, Match, PrintedLine, Rejection, SelectingParser};
 
 /// Another thread may take a handle over, use it and free it, also while other threads use handles of the same content.
 pub fn any_thread_may_take_over_a_handle()
@@ -29,6 +31,8 @@ fn contents_cross_threads()
     matches_cross_threads();
     explanations_cross_threads();
     text_explainers_cross_threads();
+    printed_lines_cross_threads();
+    selecting_parsers_cross_threads();
 }
 
 fn text_explainers_cross_threads()
@@ -65,6 +69,20 @@ fn explanations_cross_threads()
     ensures sync { IsSync explanation.the_row }
 {
     values_cross_threads::<Explanation>();
+}
+
+fn printed_lines_cross_threads()
+    ensures send { IsSend printed_line.the_row }
+    ensures sync { IsSync printed_line.the_row }
+{
+    values_cross_threads::<PrintedLine>();
+}
+
+fn selecting_parsers_cross_threads()
+    ensures send { IsSend selecting_parser.the_row }
+    ensures sync { IsSync selecting_parser.the_row }
+{
+    values_cross_threads::<SelectingParser>();
 }
 
 fn blame_parsers_cross_threads()

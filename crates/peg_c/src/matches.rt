@@ -106,7 +106,7 @@ fn parse_into(
 }
 
 // Whether a prefix of the text matched.
-fn status_of(found: &Match) -> u32
+pub(crate) fn status_of(found: &Match) -> u32
     ensures few { result ≤ FAILED }
     ensures matched { result ≡ DONE → HoldsMatched (Some (Content.Answered found.now)) }
     ensures failed { result ≡ FAILED → HoldsFailed (Some (Content.Answered found.now)) }

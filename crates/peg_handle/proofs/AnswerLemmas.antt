@@ -1,31 +1,32 @@
 -- The answer of a parser is the answer that a handle holds.
 use Rattle.std.proofs.Common.{◌≡◌, ℕ, ◌≤◌, List, IfSome, IsErrAnd, IsErrOf, Option, Result, Err, map, ap, subst, sym}
-use Rattle.peg_grammar.specs.Outcomes.{IsParseOutcome}
 use Rattle.peg_json.specs.Parses.{extents_at}
 use Rattle.peg_machine.specs.CoreOutcome.{saturated}
 use Rattle.peg_machine.specs.declared.answer.Answer.{Answer}
+use Rattle.peg_tree.specs.declared.outcome.Outcome.{Outcome}
 use Rattle.peg_parser.specs.Calls.{IsSumOfSteps}
 use Rattle.peg_parser.specs.Fits.{Fits}
 use Rattle.peg_parser.specs.StepLimits.{TakesPlainSteps}
 use Rattle.peg_semantics.specs.Rules.{Rule}
 use Rattle.peg_semantics.specs.Starts.{start_name}
-use Rattle.peg_handle.specs.Answers.{IsAnswerTo, file_span}
+use Rattle.peg_handle.specs.Answers.{IsAnswerBy}
+use Rattle.peg_handle.specs.FileSpans.{file_span}
 use Rattle.peg_handle.specs.Starts.{start_of_bytes}
 use Rattle.peg_handle.specs.declared.content.Match.{Match}
 
-pub is_answer : (rules : List Rule) (text start : List ℕ) (memo : ℕ) (named : Option (List ℕ)) (answer : Answer)
-    (found : Match) → named ≡ start_of_bytes start → found.answer ≡ answer
+pub is_answer : (IsOutcome : List ℕ → Outcome → Type 0) (rules : List Rule) (text start : List ℕ) (memo : ℕ)
+    (named : Option (List ℕ)) (answer : Answer) (found : Match) → named ≡ start_of_bytes start → found.answer ≡ answer
     → found.expected.items ≡ map file_span (extents_at rules answer.outcome.expected.items)
-    → IfSome (start_name rules named) (λ from. IsParseOutcome rules text from answer.outcome)
+    → IfSome (start_name rules named) (λ from. IsOutcome from answer.outcome)
     → Fits rules answer.outcome
     → (count : ℕ) × TakesPlainSteps rules text named count × (answer.steps ≤ count)
     → (memo ≡ 0 → (count : ℕ) × TakesPlainSteps rules text named count × (answer.steps ≡ saturated count))
     → IfSome (start_name rules named) (λ from. IsSumOfSteps rules text from answer)
-    → IsAnswerTo rules text start memo found
-is_answer rules text start memo named answer found named_is answer_is expected outcome fits steps exact own = record {
+    → IsAnswerBy IsOutcome rules text start memo found
+is_answer IsOutcome rules text start memo named answer found named_is answer_is expected outcome fits steps exact own = record {
   outcome = subst (λ (name : Option (List ℕ)). IfSome (start_name rules name) (λ from.
-      IsParseOutcome rules text from found.answer.outcome)) named_is
-      (subst (λ (a : Answer). IfSome (start_name rules named) (λ from. IsParseOutcome rules text from a.outcome))
+      IsOutcome from found.answer.outcome)) named_is
+      (subst (λ (a : Answer). IfSome (start_name rules named) (λ from. IsOutcome from a.outcome))
       (sym answer_is) outcome);
   fits = subst (λ (a : Answer). Fits rules a.outcome) (sym answer_is) fits;
   expected = subst (λ (a : Answer). found.expected.items

@@ -1,9 +1,10 @@
 -- Starts whose bytes are no rule's name.
-use Rattle.std.proofs.Common.{◌≡◌, ◌≢◌, ℕ, suc, ◌<◌, Bool, true, false, ◌==◌, ◌||◌, List, [], ◌∷◌, None, Some, length}
-use Rattle.std.proofs.Common.{bytes_eq, get_or, if◌then◌else◌, refl, subst, sym, ap, ◌∙◌, arith}
+use Rattle.std.proofs.Common.{◌≡◌, ◌≢◌, ℕ, suc, ◌<◌, Bool, true, false, ◌==◌, ◌||◌, List, [], ◌∷◌, None, Option, Some, length}
+use Rattle.std.proofs.Common.{bytes_eq, get_or, if◌then◌else◌, position, refl, subst, sym, ap, ◌∙◌, arith}
 use Rattle.std.proofs.lemmas.Bool.{eqb-true, eq-eqb}
 use Rattle.std.proofs.lemmas.List.{length-map}
 use Rattle.std.proofs.lemmas.List.Folds.{list_any_at}
+use Rattle.std.proofs.lemmas.List.Quantifiers.{position-Some}
 use Rattle.std.proofs.lemmas.Slice.Eq.{bytes_eq-Decides}
 use Rattle.std.specs.List.{list_any}
 use Rattle.peg_semantics.specs.Rules.{Rule, is_defined, name_of, names}
@@ -55,3 +56,18 @@ start-defined rules [] some defined =
     let bad : true ≡ false = sym (eq-eqb (length {A = ℕ} []) 0 refl) ∙ some in absurd cc
 start-defined rules (byte ∷ bytes) some defined =
     (byte ∷ bytes, ap (λ (b : Bool). if b then Some (byte ∷ bytes) else None) defined)
+
+-- a name that no rule has has no number
+pub unnumbered : (rules : List Rule) (name : List ℕ)
+    → ((rule : ℕ) → rule < length rules → name_of rules rule ≢ name)
+    → position (bytes_eq name) (names rules) ≡ None
+unnumbered rules name differ = by (position (bytes_eq name) (names rules)) refl
+  where
+    by : (found : Option ℕ) → position (bytes_eq name) (names rules) ≡ found
+        → position (bytes_eq name) (names rules) ≡ None
+    by None is = is
+    by (Some number) is =
+        let there = position-Some (bytes_eq name) (names rules) number [] is in
+        let within : number < length rules = omega (arith, there.0, length-map rules (λ (rule : Rule). rule.name)) in
+        let same = (bytes_eq-Decides name (get_or (names rules) number [])).0 there.1 in
+        absurd (differ number within (sym (same ∙ name-numbered rules number within)))

@@ -9,13 +9,13 @@ use Rattle.peg_explain.specs.declared.style.ItemStyle.{ItemStyle}
 use Rattle.peg_parser.specs.Parser.{parser_rules}
 use Rattle.peg_semantics.specs.Rules.{Rule}
 use Rattle.peg_semantics.specs.Starts.{start_name}
-use Rattle.peg_handle.specs.Answers.{file_span}
+use Rattle.peg_handle.specs.FileSpans.{file_span}
 use Rattle.peg_handle.specs.declared.content.Explanation.{Explanation}
 use Rattle.peg_handle.specs.declared.content.GrammarFile.{GrammarFile}
 use Rattle.peg_handle.specs.declared.content.TextExplainer.{TextExplainer}
 use Rattle.peg_handle.specs.declared.explanation_calls.MismatchInfo.{MismatchInfo}
 
--- classes and dots are written as names of rules, where that is possible; rules aren't shown
+-- rules are named in place of their parts, and the rules of other items aren't shown
 abbrev pub named_style : ItemStyle
 named_style = style_of false false
 

@@ -1,10 +1,13 @@
 pub mod Answers
 pub mod Contents
 pub mod Explanations
+pub mod FileSpans
 pub mod Levels
 pub mod Nodes
+pub mod PrintedLines
 pub mod ReadFaults
 pub mod RefusalInfos
 pub mod Rejections
+pub mod Selections
 pub mod Starts
 pub mod Summaries

@@ -1,10 +1,13 @@
 //! The content of a handle.
-ghost use Rattle.std.specs.Prelude.{◌≡◌};
+ghost use Rattle.std.specs.Prelude.{◌≡◌, map};
+ghost use Rattle.peg_handle.specs.FileSpans.{file_span};
 ghost use Rattle.peg_handle.specs.Levels.{parsed_levels};
+ghost use Rattle.peg_parser.specs.Engine.{shown_parser_rules};
+ghost use Rattle.peg_semantics.specs.Terminals.{extents_of_terminals};
 
 use crate::refusal_info::RefusalInfo;
 use peg_blame::BlameParser;
-use peg_parser::{Answer, Parser};
+use peg_parser::{Answer, Parser, ShownParser};
 
 /// The content of a handle.
 #[derive(Drop)]
@@ -19,6 +22,10 @@ pub enum Content {
     Explained(Explanation),
     /// An accepted grammar file that explains texts.
     Explaining(TextExplainer),
+    /// What pegtool prints about a grammar.
+    Printed(PrintedLine),
+    /// An accepted grammar file whose trees have the nodes of chosen rules.
+    Selecting(SelectingParser),
 }
 
 /// An accepted grammar file, and its parser.
@@ -34,6 +41,15 @@ pub struct TextExplainer {
     pub grammar: GrammarFile,
     /// What `compile_blames` returned for the parser.
     pub blames: Option<BlameParser>,
+}
+
+/// The parser of an accepted grammar file whose trees have the root and the nodes of chosen rules.
+#[derive(Drop)]
+pub struct SelectingParser {
+    pub parser: ShownParser,
+    /// The spans of the terminals in the grammar file.
+    pub terminals: Vec<FileSpan>,
+    pub ghost spans: { terminals.items ≡ map file_span (extents_of_terminals (shown_parser_rules parser)) },
 }
 
 /// Why a grammar file was rejected.
@@ -68,6 +84,12 @@ pub struct Explanation {
     pub expected: Vec<FileSpan>,
     /// Whether the end of the text is expected there, too.
     pub is_end_expected: bool,
+}
+
+/// What pegtool prints about a grammar: a line of JSON, without its line end.
+#[derive(Drop)]
+pub struct PrintedLine {
+    pub json: String,
 }
 
 /// The bytes of a grammar file from offset `start` up to, but not including, offset `end`.

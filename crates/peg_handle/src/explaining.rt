@@ -1,11 +1,11 @@
 //! Explanations of texts.
-ghost use Rattle.std.specs.Prelude.{◌≡◌, ◌≤◌, ◌<◌, ◌^◌, ◌⊎◌, ℕ, List, IfErr, IfOk, IsErrOf, None, Some, length};
+ghost use Rattle.std.specs.Prelude.{◌≡◌, ◌≤◌, ◌<◌, ◌+◌, ◌^◌, ◌⊎◌, ℕ, List, IfErr, IfOk, IsErrOf, None, Some, length};
 ghost use Rattle.std.specs.Prelude.{map, OnOk};
 ghost use Rattle.peg_bytes.specs.Extent.{extent};
 ghost use Rattle.peg_explain.specs.Explainers.{IsExplainerOf};
 ghost use Rattle.peg_explain.specs.Explanations.{ExplainingAnswersWithin, ExplainingStaysWithin, ExplainingTakesMoreSteps};
 ghost use Rattle.peg_grammar.specs.Limits.{max_text_bytes};
-ghost use Rattle.peg_handle.specs.Answers.{file_span};
+ghost use Rattle.peg_handle.specs.FileSpans.{file_span};
 ghost use Rattle.peg_handle.specs.Explanations.{IsCompiled, IsExplanationOf, ShowsMismatch, named_style};
 ghost use Rattle.peg_handle.specs.Starts.{start_of_bytes, step_limit};
 ghost use Rattle.peg_parser.specs.ParseContract.{HasParseFaults};
@@ -168,7 +168,7 @@ fn explanation_of(
 ) -> Result<Explanation, AllocError>
     requires short { length text.now ≤ max_text_bytes }
     requires in_text { mismatch.now.at ≤ length text.now }
-    requires few { length mismatch.now.expected.items < 2 ^ 32 }
+    requires few { length mismatch.now.rules.items + length mismatch.now.expected.items < 2 ^ 32 }
     requires styled { explainer.now.style ≡ named_style }
     ensures { (file : List ℕ) (rules : List Rule) → IsExplainerOf file rules explainer.now
         → IfOk result (ShowsMismatch file rules name.now text.now mismatch.now) }

@@ -2,8 +2,8 @@
 ghost use Rattle.std.specs.Prelude.{◌≡◌};
 
 use crate::status::{
-    DONE, FAILED, NO_SUCH_START, OUT_OF_MEMORY, OUT_OF_RANGE, REFUSED, STEP_LIMIT, TEXT_TOO_LONG,
-    WRONG_HANDLE,
+    DONE, FAILED, NO_SUCH_RULE, NO_SUCH_START, OUT_OF_MEMORY, OUT_OF_RANGE, REFUSED, STEP_LIMIT,
+    TEXT_TOO_LONG, WRONG_HANDLE,
 };
 
 /// The statuses have the numbers that `include/peg.h` gives them.
@@ -17,4 +17,5 @@ pub fn the_statuses_are_those_of_the_header()
     ensures step_limit { STEP_LIMIT ≡ 6 }
     ensures text_too_long { TEXT_TOO_LONG ≡ 7 }
     ensures out_of_range { OUT_OF_RANGE ≡ 8 }
+    ensures no_such_rule { NO_SUCH_RULE ≡ 9 }
 {}

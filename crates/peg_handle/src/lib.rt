@@ -10,10 +10,14 @@ pub mod laws;
 mod levels;
 mod nodes;
 mod parsing;
+mod printing;
+mod printing_calls;
 mod reading;
 mod refusal_info;
 mod rejection;
 mod rule_names;
+mod selecting;
+mod selecting_calls;
 mod start;
 mod status;
 mod summary;
@@ -23,7 +27,10 @@ pub use calls::{
     copy_json_of, copy_name_of, copy_nodes_of, copy_reason_of, copy_spans_of, parse_by, write_info,
     write_rule_count, write_summary,
 };
-pub use content::{Content, Explanation, FileSpan, GrammarFile, Match, Rejection, TextExplainer};
+pub use content::{
+    Content, Explanation, FileSpan, GrammarFile, Match, PrintedLine, Rejection, SelectingParser,
+    TextExplainer,
+};
 pub use explaining::{explain, explain_compiled};
 pub use explanation_calls::{
     MismatchInfo, copy_expected_of, copy_message_of, explain_by, explain_by_explainer,
@@ -31,11 +38,17 @@ pub use explanation_calls::{
 };
 pub use nodes::{Node, copy_nodes};
 pub use parsing::parse;
+pub use printing::{print_code, print_table, print_warnings};
+pub use printing_calls::{
+    copy_line_of, print_code_of, print_table_of, print_warnings_of, write_rule_number,
+};
 pub use reading::{ReadFault, read, read_explainer};
 pub use refusal_info::RefusalInfo;
 pub use rule_names::copy_rule_name;
+pub use selecting::{parse_selecting, read_selecting};
+pub use selecting_calls::parse_by_selecting;
 pub use status::{
-    DONE, FAILED, NO_SUCH_START, OUT_OF_MEMORY, OUT_OF_RANGE, REFUSED, STEP_LIMIT, TEXT_TOO_LONG,
-    WRONG_HANDLE,
+    DONE, FAILED, NO_SUCH_RULE, NO_SUCH_START, OUT_OF_MEMORY, OUT_OF_RANGE, REFUSED, STEP_LIMIT,
+    TEXT_TOO_LONG, WRONG_HANDLE,
 };
 pub use summary::{Summary, summary_of};

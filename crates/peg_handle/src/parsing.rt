@@ -1,6 +1,7 @@
 //! Parses of texts.
 ghost use Rattle.std.specs.Prelude.{◌≡◌, ◌≤◌, ◌<◌, ℕ, All, IfOk, length, map, Some};
-ghost use Rattle.peg_handle.specs.Answers.{IsAnswerTo, file_span};
+ghost use Rattle.peg_handle.specs.Answers.{IsAnswerTo};
+ghost use Rattle.peg_handle.specs.FileSpans.{file_span};
 ghost use Rattle.peg_handle.specs.Starts.{start_of_bytes, step_limit};
 ghost use Rattle.peg_json.specs.Parses.{extents_at};
 ghost use Rattle.peg_parser.specs.Fits.{Fits};
@@ -62,7 +63,7 @@ fn match_of(alloc: Global, parser: &Parser, answer: Answer) -> Result<Match, All
 }
 
 // The levels of the nodes of a result.
-fn levels_in(alloc: Global, parsed: &Parsed) -> Result<Vec<usize>, AllocError>
+pub(crate) fn levels_in(alloc: Global, parsed: &Parsed) -> Result<Vec<usize>, AllocError>
     ensures { IfOk result (λ levels. levels.items ≡ parsed_levels parsed.now) }
 {
     match parsed {

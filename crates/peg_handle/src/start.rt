@@ -1,8 +1,10 @@
 //! The start of a parse, and its step limit.
 ghost use Rattle.std.specs.Prelude.{◌≡◌, ◌≢◌, ℕ, ◌<◌, List, IfErr, IfOk, IfSome, None, Some, length, option_map, true};
+ghost use Rattle.std.specs.Prelude.{bytes_eq, position};
 ghost use Rattle.peg_grammar.specs.GrammarRules.{rules_in};
 ghost use Rattle.peg_handle.specs.Starts.{start_of_bytes, step_limit};
-ghost use Rattle.peg_semantics.specs.Rules.{is_defined, name_of};
+ghost use Rattle.peg_json.specs.Lints.{start_number};
+ghost use Rattle.peg_semantics.specs.Rules.{is_defined, name_of, names};
 ghost use Rattle.peg_semantics.specs.Starts.{start_name};
 
 use peg_grammar::Grammar;
@@ -43,6 +45,30 @@ fn rule_named<'a>(grammar: &'a Grammar, name: &[u8]) -> Option<&'a str>
         }
     }
     None
+}
+
+// Returns the number of the rule whose name has these bytes. Linear in the number of rules.
+pub(crate) fn number_named(grammar: &Grammar, name: &[u8]) -> Option<u32>
+    ensures { result ≡ position (bytes_eq name.now) (names (rules_in grammar.now)) }
+{
+    match rule_named(grammar, name) {
+        Some(found) => grammar.rule_number(found),
+        None => None,
+    }
+}
+
+// Returns the number of the start rule that bytes name: that of the first rule for no bytes.
+pub(crate) fn start_rule(grammar: &Grammar, start: &[u8]) -> Option<u32>
+    ensures number { result ≡ start_number (rules_in grammar.now) (start_of_bytes start.now) }
+    ensures within { IfSome result (λ rule. rule < length (rules_in grammar.now)) }
+{
+    if start.is_empty() {
+        // A grammar has at least one rule, so rule 0 is one.
+        let _count = grammar.rules();
+        Some(0)
+    } else {
+        number_named(grammar, start)
+    }
 }
 
 // Returns the step limit that a number sets: none for 0.

@@ -21,6 +21,8 @@ pub const STEP_LIMIT: u32 = 6;
 pub const TEXT_TOO_LONG: u32 = 7;
 /// A rule number or an offset is out of range.
 pub const OUT_OF_RANGE: u32 = 8;
+/// No rule has the name.
+pub const NO_SUCH_RULE: u32 = 9;
 
 // The status of a parse that has no answer.
 pub(crate) fn fault_status(fault: ParseFault) -> u32

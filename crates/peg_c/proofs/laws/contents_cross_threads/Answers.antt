@@ -12,7 +12,13 @@ returns-clause-send c =
           (c.matches_cross_threads.ensures.send, tt),
           (
             (c.explanations_cross_threads.ensures.send, tt),
-            ((c.text_explainers_cross_threads.ensures.send, tt), tt),
+            (
+              (c.text_explainers_cross_threads.ensures.send, tt),
+              (
+                (c.printed_lines_cross_threads.ensures.send, tt),
+                ((c.selecting_parsers_cross_threads.ensures.send, tt), tt),
+              ),
+            ),
           ),
         ),
       ),
@@ -28,7 +34,13 @@ returns-clause-sync c =
           (c.matches_cross_threads.ensures.sync, tt),
           (
             (c.explanations_cross_threads.ensures.sync, tt),
-            ((c.text_explainers_cross_threads.ensures.sync, tt), tt),
+            (
+              (c.text_explainers_cross_threads.ensures.sync, tt),
+              (
+                (c.printed_lines_cross_threads.ensures.sync, tt),
+                ((c.selecting_parsers_cross_threads.ensures.sync, tt), tt),
+              ),
+            ),
           ),
         ),
       ),

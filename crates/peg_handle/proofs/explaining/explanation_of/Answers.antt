@@ -3,7 +3,7 @@ use Rattle.peg_bytes.specs.Extent.{extent}
 use Rattle.peg_explain.specs.Explanations.{IsMismatchMessage}
 use Rattle.peg_explain.specs.declared.mismatch.ExpectedItem.{ExpectedItem}
 use Rattle.peg_explain.specs.declared.style.ItemStyle.{ItemStyle}
-use Rattle.peg_handle.specs.Answers.{file_span}
+use Rattle.peg_handle.specs.FileSpans.{file_span}
 use Rattle.peg_handle.proofs.explaining.explanation_of.Goals as goal
 
 pub returns : goal.returns

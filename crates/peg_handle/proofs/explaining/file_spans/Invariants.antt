@@ -1,6 +1,6 @@
 use Rattle.std.proofs.Common.{◌≡◌, map, take}
 use Rattle.peg_bytes.specs.Extent.{extent}
-use Rattle.peg_handle.specs.Answers.{file_span}
+use Rattle.peg_handle.specs.FileSpans.{file_span}
 use Rattle.peg_handle.proofs.explaining.file_spans.Given as goal
 
 -- the spans of the first items are copied

@@ -1,4 +1,5 @@
 use Rattle.std.proofs.Common.{rules as by_rules, ℕ, List, Option, option_map, subst, sym}
+use Rattle.peg_grammar.specs.Outcomes.{IsParseOutcome}
 use Rattle.peg_handle.specs.Starts.{start_of_bytes}
 use Rattle.peg_parser.specs.Parser.{parser_rules}
 use Rattle.peg_parser.specs.StepLimits.{TakesMoreSteps}
@@ -7,7 +8,8 @@ use Rattle.peg_handle.proofs.parsing.parse.Goals as goal
 
 pub returns-clause-answer : goal.returns-clause-answer
 returns-clause-answer c =
-    is_answer (parser_rules c.args.parser.now) c.args.text.now c.args.start.now c.args.memo
+    is_answer (IsParseOutcome (parser_rules c.args.parser.now) c.args.text.now) (parser_rules c.args.parser.now)
+    c.args.text.now c.args.start.now c.args.memo
     (option_map (λ name. name.now) c.in_ok-start.start) c.in_ok-answer.answer c.in_ok-found.found
     c.in_ok-start.ensures.named c.in_ok-found.ensures.answer c.in_ok-found.ensures.expected
     c.in_ok-answer.ensures.parse.outcome c.in_ok-answer.ensures.parse.fits c.in_ok-answer.ensures.parse.steps.plain

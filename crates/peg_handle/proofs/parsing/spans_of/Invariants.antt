@@ -1,7 +1,7 @@
 use Rattle.std.proofs.Common.{◌≡◌, map, take}
 use Rattle.peg_json.specs.Parses.{extents_at}
 use Rattle.peg_parser.specs.Parser.{parser_rules}
-use Rattle.peg_handle.specs.Answers.{file_span}
+use Rattle.peg_handle.specs.FileSpans.{file_span}
 use Rattle.peg_handle.proofs.parsing.spans_of.Given as goal
 
 -- the spans so far are those of the first `i` terminals
