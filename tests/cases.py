@@ -14,6 +14,7 @@ four spaces, and its output ends at an empty line; a status is compared only if 
 The commands of a file run in one new folder, with the program as `pegtool` in PATH, the examples in `examples`, no
 standard input and `LC_ALL=C.UTF-8`. Output is compared byte for byte. Nothing here writes expected output."""
 import argparse
+import collections
 import concurrent.futures
 import dataclasses
 import difflib
@@ -27,6 +28,7 @@ import tempfile
 
 TOP = pathlib.Path(__file__).resolve().parent.parent
 SECONDS = 120  # for each command
+TOOLS = ("jq", "parallel")  # a command that needs one that isn't here is skipped
 STATUS = re.compile(r"\[(\d+)\]")
 NO_END = " (no-eol)"
 COMMAND = re.compile(r"\s*\$ ")
@@ -131,7 +133,8 @@ class Result:
     """What the run of a file found."""
 
     ran: int = 0
-    skipped: int = 0
+    # How many commands were skipped for each tool that isn't here.
+    skipped: collections.Counter[str] = dataclasses.field(default_factory=collections.Counter)
     faults: list[str] = dataclasses.field(default_factory=list)
 
 
@@ -152,16 +155,23 @@ def run_file(path: pathlib.Path, program: str) -> Result:
         os.symlink(TOP / "examples", f"{folder}/examples")
         environment = {**os.environ, "PATH": f"{links}:{os.environ['PATH']}", "LC_ALL": "C.UTF-8", "TOP": str(TOP)}
         for case in cases:
-            if re.search(r"\bjq\b", case.command) and not shutil.which("jq"):
-                result.skipped += 1
+            if tool := missing_tool(case.command):
+                result.skipped[tool] += 1
                 continue
             result.ran += 1
             if found := run(case, folder, environment):
                 result.faults.append("\n".join([f"{name}:{case.line}: {case.command}", *(f"    {line}" for line in found)]))
     lines = sum(bool(COMMAND.match(line)) for line in text.split("\n"))
-    if path.suffix != ".md" and result.ran + result.skipped != lines:
-        result.faults.append(f"{name}: {lines} commands, but {result.ran + result.skipped} cases")
+    cases_met = result.ran + result.skipped.total()
+    if path.suffix != ".md" and cases_met != lines:
+        result.faults.append(f"{name}: {lines} commands, but {cases_met} cases")
     return result
+
+
+def missing_tool(command: str) -> str | None:
+    """A tool that a command needs and that isn't here."""
+    words = set(re.findall(r"\w+", command))
+    return next((tool for tool in TOOLS if tool in words and not shutil.which(tool)), None)
 
 
 def all_files() -> list[pathlib.Path]:
@@ -181,11 +191,11 @@ def main() -> int:
     for fault in (fault for result in results for fault in result.faults):
         print(fault)
     ran = sum(result.ran for result in results)
-    skipped = sum(result.skipped for result in results)
+    skipped = sum((result.skipped for result in results), collections.Counter())
     faults = sum(len(result.faults) for result in results)
-    if skipped:
-        print(f"SKIPPED: {skipped} commands need jq")
-    print(f"cases: {ran} commands of {len(files)} files, {skipped} skipped, {faults} faults")
+    for tool, count in sorted(skipped.items()):
+        print(f"SKIPPED: {count} commands need {tool}")
+    print(f"cases: {ran} commands of {len(files)} files, {skipped.total()} skipped, {faults} faults")
     return 1 if faults or not ran else 0
 
 

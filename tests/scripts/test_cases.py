@@ -3,6 +3,7 @@ import pathlib
 import sys
 import tempfile
 import unittest
+from unittest import mock
 
 sys.path.insert(0, str(pathlib.Path(__file__).resolve().parent.parent))
 import cases  # noqa: E402
@@ -72,6 +73,15 @@ class Running(unittest.TestCase):
 
     def test_bytes_that_are_no_text_are_a_fault(self) -> None:
         self.assertEqual(len(faults("One.\n\n  $ printf '\\377'\n  ? (no-eol)\n")), 1)
+
+
+    def test_a_command_whose_tool_is_not_here_is_skipped(self) -> None:
+        text = "Two tools.\n\n  $ echo 1 | jq .\n  1\n\n  $ echo jqs parallels\n  jqs parallels\n"
+        with tempfile.TemporaryDirectory() as folder, mock.patch.object(cases.shutil, "which", return_value=None):
+            path = pathlib.Path(folder, "x.t")
+            path.write_text(text, encoding="utf-8")
+            result = cases.run_file(path, "/bin/true")
+        self.assertEqual((result.ran, dict(result.skipped), result.faults), (1, {"jq": 1}, []))
 
 
 if __name__ == "__main__":
