@@ -1,4 +1,4 @@
-/* peg.h: the C interface of Cutzalmi, a verified parser for parsing expression grammars (PEGs).
+/* peg.h: the C interface of pegtool, a verified parser for parsing expression grammars (PEGs).
  *
  * A program reads a grammar file, parses texts by it, and copies the nodes of the parse trees into its own memory.
  * docs/C.md is a tutorial. docs/NOTATION.md describes grammar files, and docs/USAGE.md the limits and pegtool's output.

@@ -1,4 +1,4 @@
-"""The C library of Cutzalmi: the declarations of include/peg.h, and a handle of a grammar for each thread."""
+"""The C library of pegtool: the declarations of include/peg.h, and a handle of a grammar for each thread."""
 
 from __future__ import annotations
 
