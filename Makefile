@@ -4,6 +4,8 @@ PROGRAM := crates/pegtool/out/pegtool
 
 VERSION := $(shell sed -n 's/.*VERSION: &str = "\(.*\)";/\1/p' crates/peg_c/src/texts.rt)
 PREFIX := /usr/local
+LIBDIR = $(PREFIX)/lib
+DOCDIR = $(PREFIX)/share/doc/pegtool
 PYTHON_PATH := $(PREFIX)/lib/python3/dist-packages
 
 .PHONY: help quick try run lib wheel install dist test test-bindings fuzz fmt drawing
@@ -26,15 +28,17 @@ lib: ## prove and build the C library, into out/lib
 wheel: ## make a wheel of the Python package with the library that make lib built, in out/
 	python3 python/backend/pegtool_build.py out
 
-install: ## install what make run and make lib built, below PREFIX (and DESTDIR)
+install: ## install what make run and make lib built, below PREFIX (and LIBDIR, DOCDIR, DESTDIR)
 	install -D $(PROGRAM) $(DESTDIR)$(PREFIX)/bin/pegtool
 	install -D -m 644 man/pegtool.1 $(DESTDIR)$(PREFIX)/share/man/man1/pegtool.1
 	install -D -m 644 include/peg.h $(DESTDIR)$(PREFIX)/include/peg.h
-	install -D -m 644 out/lib/libpeg.a $(DESTDIR)$(PREFIX)/lib/libpeg.a
-	install -D out/lib/libpeg.so.1 $(DESTDIR)$(PREFIX)/lib/libpeg.so.1
-	ln -sf libpeg.so.1 $(DESTDIR)$(PREFIX)/lib/libpeg.so
-	install -d $(DESTDIR)$(PREFIX)/lib/pkgconfig $(DESTDIR)$(PYTHON_PATH)/pegtool
-	sed 's#@PREFIX@#$(PREFIX)#; s#@VERSION@#$(VERSION)#' tools/peg.pc.in > $(DESTDIR)$(PREFIX)/lib/pkgconfig/peg.pc
+	install -D -m 644 out/lib/libpeg.a $(DESTDIR)$(LIBDIR)/libpeg.a
+	install -D out/lib/libpeg.so.1 $(DESTDIR)$(LIBDIR)/libpeg.so.1
+	ln -sf libpeg.so.1 $(DESTDIR)$(LIBDIR)/libpeg.so
+	install -d $(DESTDIR)$(LIBDIR)/pkgconfig $(DESTDIR)$(DOCDIR) $(DESTDIR)$(PYTHON_PATH)/pegtool
+	sed 's#@PREFIX@#$(PREFIX)#; s#@LIBDIR@#$(LIBDIR)#; s#@VERSION@#$(VERSION)#' tools/peg.pc.in \
+	  > $(DESTDIR)$(LIBDIR)/pkgconfig/peg.pc
+	install -m 644 docs/USAGE.md docs/NOTATION.md docs/LINT.md docs/C.md docs/PYTHON.md $(DESTDIR)$(DOCDIR)
 	install -m 644 python/pegtool/*.py python/pegtool/py.typed $(DESTDIR)$(PYTHON_PATH)/pegtool
 
 dist: ## make a tarball of what make install installs, in out/

@@ -60,6 +60,12 @@ extern "C" {
 /* The number of the binary interface that this header describes. `peg_abi` returns that of the library. */
 #define PEG_ABI 1u
 
+/* The version of this header. `peg_version` copies that of the library. */
+#define PEG_VERSION_MAJOR 0
+#define PEG_VERSION_MINOR 1
+#define PEG_VERSION_PATCH 0
+#define PEG_VERSION "0.1.0"
+
 /* A grammar handle holds a grammar, or the reason why a grammar file was refused. A match handle holds the answer to a
  * parse, and an explanation handle says where a text doesn't match. An explainer handle holds a grammar that is
  * compiled for explanations. A line handle holds a line of JSON that pegtool prints about a grammar. A parser handle

@@ -20,7 +20,8 @@ tools/c_library.sh "${@:2}" || exit 1
 
 # The names that the libraries show are those of the header.
 grep -o '\bpeg_[a-z_]* *(' include/peg.h | tr -d ' (' | sort -u > "$work/declared"
-nm -D --defined-only out/lib/libpeg.so | awk '{ print $3 }' | sort -u > "$work/shared"
+nm -D --defined-only out/lib/libpeg.so | awk '$2 == "T" && sub(/@@LIBPEG_1$/, "", $3) { print $3 }' |
+  sort -u > "$work/shared"
 nm -g --defined-only out/lib/libpeg.a 2> /dev/null | awk 'NF == 3 { print $3 }' | sort -u > "$work/static"
 cmp "$work/declared" "$work/shared" || fault "libpeg.so doesn't show the functions of the header"
 cmp "$work/declared" "$work/static" || fault "libpeg.a doesn't show the functions of the header"
@@ -53,16 +54,24 @@ compile memory tests/c/memory.c $archive $wrap
 compile threads tests/c/threads.c $archive -pthread
 compile shared tests/c/shared.c $archive -pthread
 compile stack tests/c/stack.c $archive -pthread
-# In C++ the outputs of calls are initialised by `= {}`.
-printf '#include "peg.h"
+# In C++ the outputs of calls are initialised by `= {}`. The header has the interface and the version of the library.
+cat > "$work/abi.cc" << 'PROGRAM'
+#include <cstdio>
+#include <cstring>
+#include "peg.h"
 int main() {
   peg_grammar grammar = PEG_NULL;
   peg_refusal_info info = {};
   peg_summary summary = {};
-  return peg_abi() != PEG_ABI || grammar.opaque || info.kind || summary.nodes;
-}\n' > "$work/abi.cc"
+  char numbers[32] = {}, version[32] = {};
+  std::snprintf(numbers, sizeof numbers, "%d.%d.%d", PEG_VERSION_MAJOR, PEG_VERSION_MINOR, PEG_VERSION_PATCH);
+  peg_version(reinterpret_cast<uint8_t *>(version), sizeof version - 1);
+  return peg_abi() != PEG_ABI || std::strcmp(version, PEG_VERSION) || std::strcmp(version, numbers) ||
+         grammar.opaque || info.kind || summary.nodes;
+}
+PROGRAM
 g++ -Wall -Wextra -Werror -Iinclude -o "$work/abi" "$work/abi.cc" $archive || fault "C++ can't include the header"
-"$work/abi" || fault "the library has another interface than the header"
+"$work/abi" || fault "the library has another interface or version than the header"
 programs="rows rows_shared"
 if command -v rustc > /dev/null; then
   rustc --edition 2021 -O -D warnings -L out/lib -l static=peg examples/rust/rows.rs -o "$work/rows_rust" ||

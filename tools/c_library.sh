@@ -24,7 +24,8 @@ objcopy --wildcard --keep-global-symbol='peg_*' "$work/peg.o"
 mkdir -p out/lib
 rm -f out/lib/libpeg.a
 ar rcs out/lib/libpeg.a "$work/peg.o"
-echo '{ global: peg_*; local: *; };' > "$work/exports"
+# The symbols have a version, so that a program is bound to the library with this interface.
+echo 'LIBPEG_1 { global: peg_*; local: *; };' > "$work/exports"
 gcc -shared -o out/lib/libpeg.so.1 "$work/peg.o" -Wl,-soname,libpeg.so.1 -Wl,--version-script="$work/exports" \
   -Wl,-z,defs -Wl,-z,relro -Wl,-z,now
 ln -sf libpeg.so.1 out/lib/libpeg.so
