@@ -1,4 +1,4 @@
-"""Parse texts by parsing expression grammars, with the proved parser of Cutzalmi.
+"""Parse texts by parsing expression grammars, with the proved parser of pegtool.
 
     >>> import pegtool
     >>> grammar = pegtool.Grammar('''
@@ -30,6 +30,7 @@ from ._errors import (
 from ._grammar import DEFAULT_MEMO, Grammar
 from ._library import version
 from ._match import Failure, Match, Node, Row, Rows
+from ._records import Refusal
 from ._text import Text
 from ._version import __version__
 from ._visitor import Transformer, Visitor
@@ -45,6 +46,7 @@ __all__ = [
     "NoSuchRuleError",
     "ParseError",
     "PegError",
+    "Refusal",
     "Row",
     "Rows",
     "StepLimitError",

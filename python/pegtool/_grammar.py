@@ -6,7 +6,7 @@ import json
 import operator
 import os
 import threading
-from typing import Any, Dict, FrozenSet, Iterable, List, Optional, Tuple, Union, overload
+from typing import Any, Dict, FrozenSet, Iterable, Iterator, List, Optional, Tuple, Union, overload
 
 from ._errors import GrammarError, NoSuchRuleError, StepLimitError, TextTooLongError
 from ._library import (
@@ -26,6 +26,7 @@ from ._library import (
 )
 from ._match import Failure, Match, Request
 from ._packed import shifted
+from ._records import RecordAnswer, Stream, answers_of, texts_of
 from ._text import Buffer, Text, text_of
 
 # The capacity of the memo that pegtool uses if none is given.
@@ -215,10 +216,59 @@ class Grammar:
         hidden = self._hidden(show, hide)
         text = text_of(data)
         first = text.offset(operator.index(pos))
-        status, raw = self._parser(hidden, tree).parse(text.data, first, options, tree)
+        return self._answer(Request(text, first, options, hidden, tree, name))
+
+    def lines(
+        self,
+        stream: Stream,
+        start: Optional[str] = None,
+        *,
+        null: bool = False,
+        crlf: bool = False,
+        memo: int = DEFAULT_MEMO,
+        steps: Optional[int] = None,
+        show: Optional[Iterable[str]] = None,
+        hide: Optional[Iterable[str]] = None,
+        tree: bool = True,
+        name: Optional[str] = None,
+    ) -> Iterator[RecordAnswer]:
+        """Parses each record of a stream, such as the lines of a log, as a text of its own. Iterates over what `match`
+        gives for each of them.
+
+        >>> import io
+        >>> numbers = Grammar("Number <- [0-9]+")
+        >>> for answer in numbers.lines(io.BytesIO(b"12\\nx\\n3")):
+        ...     print(answer.record, answer)
+        1 <Match of 2 bytes, 1 nodes>
+        2 <Failure at 0>
+        3 <Match of 1 bytes, 1 nodes>
+
+        `stream` is a file that is open for bytes, or another object with its method `read`. It is read in blocks, and
+        may have any length: one block and one record are in memory. A record ends at a line feed, with `null` at a zero
+        byte. With `crlf` a carriage return before the line feed isn't part of it. The last record may lack its end.
+
+        `answer.record` is the number of the record, and `answer.line` the line of the stream where it begins, both from
+        1. Positions are in the record, and lines are those of the stream, in errors, too. `name` is how errors call the
+        stream, by default its own name. A record that is over a limit gives a `Refusal`, which is false like a
+        `Failure`. The other options and errors are those of `match`; the errors of options are raised at once.
+        """
+        options = options_of(start, memo, steps)
+        if start is not None:
+            self.known_rules([start], "start")
+        hidden = self._hidden(show, hide)
+        if null and crlf:
+            raise ValueError("null and crlf can't be given together")
+        called = name_of(stream) if name is None else name
+        texts = texts_of(stream, b"\0" if null else b"\n", crlf)
+        return answers_of(texts, lambda text: self._answer(Request(text, 0, options, hidden, tree, called)))
+
+    def _answer(self, request: Request) -> Union[Match[Any], Failure[Any]]:
+        """The answer to a parse. Raises the error of a parse that has none."""
+        first, options = request.first, request.options
+        parser = self._parser(request.hidden, request.tree)
+        status, raw = parser.parse(request.text.data, first, options, request.tree)
         if raw is None:
             raise fault(status, options)
-        request = Request(text, first, options, hidden, tree, name)
         raw = shifted(raw, first)
         if status == FAILED:
             return Failure(self, request, raw)
@@ -335,6 +385,12 @@ class Grammar:
 def grammar_of(source: Union[str, bytes], name: str, hide: FrozenSet[str]) -> Grammar:
     """A grammar that was pickled."""
     return Grammar(source, name=name, hide=hide)
+
+
+def name_of(stream: Stream) -> str:
+    """The name of a stream, if it has one that is a text."""
+    name = getattr(stream, "name", None)
+    return name if isinstance(name, str) else "<text>"
 
 
 def json_of(status: int, line: bytes) -> Any:

@@ -349,6 +349,10 @@ class _Answer(Generic[AnyText]):
         self.hidden: FrozenSet[str] = request.hidden
         # The whole text as bytes.
         self.data: bytes = request.text.data
+        # The number of the record that the text is, from 1, if it is a record of a stream.
+        self.record: Optional[int] = request.text.record
+        # The line where the text begins: of a record in its stream, otherwise 1.
+        self.line: int = request.text.line
         # The greatest offset in bytes at which a terminal failed, or where the parse began if none failed.
         self.byte_far: int = raw.furthest
         # The number of steps of the parse.
@@ -447,8 +451,8 @@ def answer_of(
 class Failure(_Answer[AnyText]):
     """No part of the text from the position of the parse on is matched. A failure is false in conditions.
 
-    Besides what `help` shows below, it has `grammar`, `name`, `data`, `byte_far`, `steps`, `hidden` and
-    `expected_spans`, which are those of a `Match`.
+    Besides what `help` shows below, it has `grammar`, `name`, `data`, `record`, `line`, `byte_far`, `steps`, `hidden`
+    and `expected_spans`, which are those of a `Match`.
     """
 
     def __bool__(self) -> Literal[False]:
@@ -469,7 +473,8 @@ class Match(_Answer[AnyText]):
     was given as `str`, and bytes otherwise; those that begin with `byte_` count bytes.
 
     Besides what `help` shows below, it has `grammar`; `name`, which is how errors call the text; `data`, the whole text
-    as bytes; `byte_start`, `byte_end`, `byte_consumed` and `byte_far`; `steps`, the number of steps of the parse;
+    as bytes; `record` and `line`, the number of the record that the text is, if it is one, and the line where the text
+    begins; `byte_start`, `byte_end`, `byte_consumed` and `byte_far`; `steps`, the number of steps of the parse;
     `hidden`, the rules whose nodes are left out; and `expected_spans`, the terminals that failed at `far`, as pairs of
     offsets in the grammar file.
     """

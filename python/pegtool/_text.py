@@ -44,6 +44,11 @@ class Text(Generic[AnyText]):
 
     __slots__ = ("given", "data", "_is_in_bytes", "_counts", "_lines")
 
+    # The number of the record that the text is, from 1, if it is a record of a stream.
+    record: Optional[int] = None
+    # The line where the text begins: of a record in its stream, otherwise 1.
+    line: int = 1
+
     @overload
     def __init__(self: Text[str], given: str) -> None: ...
 
@@ -96,7 +101,7 @@ class Text(Generic[AnyText]):
     def place(self, offset: int) -> Tuple[int, int]:
         """The line and the column of an offset in bytes, both from 1."""
         line, start = self.lines.at(offset)
-        return line, self.position(offset) - self.position(start) + 1
+        return self.line - 1 + line, self.position(offset) - self.position(start) + 1
 
     @property
     def lines(self) -> Lines:
@@ -130,6 +135,20 @@ class Text(Generic[AnyText]):
 
     def __repr__(self) -> str:
         return f"<Text of {len(self.data)} bytes>"
+
+
+class RecordText(Text[bytes]):
+    """The text of a record of a stream. Its lines are counted from the beginning of the stream."""
+
+    __slots__ = ("record", "line")
+
+    def __init__(self, given: bytes, record: int, line: int) -> None:
+        super().__init__(given)
+        self.record = record
+        self.line = line
+
+    def __reduce__(self) -> Tuple[Any, ...]:
+        return RecordText, (self.given, self.record, self.line)
 
 
 def text_of(given: Any) -> Text[Any]:
