@@ -1,6 +1,6 @@
 -- The names of characters that can't be seen, or that look like others. The names of characters beyond ASCII are in the
 -- Unicode standard, in capital letters; a byte order mark is an alias there.
-use Rattle.std.specs.Prelude.{ℕ, Bool, if◌then◌else◌, List, [], ◌∷◌, codes}
+use Rattle.std.specs.Prelude.{ℕ, if◌then◌else◌, List, [], ◌∷◌, codes}
 use Rattle.std.specs.Str.{bytes_eq}
 
 -- the first of two names, or the second one if there is no first

@@ -1,16 +1,17 @@
 -- Why a grammar file is refused, as a sentence of a message.
-use Rattle.std.specs.Prelude.{ℕ, ◌+◌, ◌==◌, not, if◌then◌else◌}
+use Rattle.std.specs.Prelude.{ℕ, ◌+◌, ◌==◌, Bool, not, ◌&&◌, ◌||◌, if◌then◌else◌}
 use Rattle.std.specs.Prelude.{List, [], ◌∷◌, ◌++◌, codes, drop, length, map, slice_index}
 use Rattle.std.specs.List.{flat_map, take_while}
 use Rattle.peg_messages.specs.Characters.{first_character}
 use Rattle.peg_messages.specs.Found.{found_text}
 use Rattle.peg_messages.specs.Shown.{shown_character}
-use Rattle.peg_messages.specs.SyntaxCauses.{is_name_byte, syntax_cause}
+use Rattle.peg_messages.specs.SyntaxCauses.{byte_before, is_name_byte, syntax_cause}
 use Rattle.peg_messages.specs.declared.causes.SyntaxCause.{SyntaxCause}
 use Rattle.peg_messages.specs.declared.causes.SyntaxCause.TheVariants.{EndsEarly, ByteOrderMark, OpenComment}
 use Rattle.peg_messages.specs.declared.causes.SyntaxCause.TheVariants.{OpenLiteral, OpenClass, BadEscape, OtherComment}
 use Rattle.peg_messages.specs.declared.causes.SyntaxCause.TheVariants.{Label, BareEscape, Braces, NoBreakSpace, NoArrow}
-use Rattle.peg_messages.specs.declared.causes.SyntaxCause.TheVariants.{Bar, Semicolon, Unexpected}
+use Rattle.peg_messages.specs.declared.causes.SyntaxCause.TheVariants.{Bar, Capture, NamedClass, OpenCount, Semicolon}
+use Rattle.peg_messages.specs.declared.causes.SyntaxCause.TheVariants.{Unexpected}
 use Rattle.peg_messages.specs.declared.reason.Reason.{Reason}
 use Rattle.peg_messages.specs.declared.reason.Reason.TheVariants as reason
 use Rattle.peg_messages.specs.declared.shown.Style.TheVariants.{Spelling}
@@ -41,7 +42,10 @@ abbrev pub foreign_sentence : SyntaxCause → List ℕ
 foreign_sentence OtherComment = codes "a comment begins with #"
 foreign_sentence Label = codes "there are no labels: give the part a rule of its own"
 foreign_sentence BareEscape = codes "an escape is written in a literal or a class, as in [\\t]"
+foreign_sentence OpenCount = codes "a count needs both numbers: write e e+ for two or more"
 foreign_sentence Braces = codes "a count is written {2} or {2,4}"
+foreign_sentence NamedClass = codes "there are no named classes: write a class in brackets, as in [a-zA-Z0-9]"
+foreign_sentence Capture = codes "there are no captures: give the part a rule of its own"
 foreign_sentence NoBreakSpace = codes "unexpected '\\xC2\\xA0' (no-break space): write a blank"
 foreign_sentence Bar = codes "alternatives are separated by /, not by |"
 foreign_sentence Semicolon = codes "a definition doesn't end in a semicolon"
@@ -71,6 +75,18 @@ cause_sentence file at foreign = foreign_sentence foreign
 abbrev pub rule_sentence : (name what : List ℕ) → List ℕ
 rule_sentence name what = codes "the rule " ++ name ++ what
 
+-- a name that is the letter `i`, 105, right after a quote, which is 39 or 34
+abbrev pub is_case_flag : (file name : List ℕ) → (at : ℕ) → Bool
+is_case_flag file name at =
+    length name == 1 && slice_index name 0 == 105 && (byte_before file at == 39 || byte_before file at == 34)
+
+-- no rule has a name at an offset: a literal can't ignore case, if the name is the sign for this in other notations
+abbrev pub undefined_sentence : (file name : List ℕ) → (at : ℕ) → List ℕ
+undefined_sentence file name at =
+    if is_case_flag file name at
+    then codes "a literal can't ignore case: write a class for each letter, as in [sS] [eE]"
+    else rule_sentence name (codes " is not defined")
+
 -- a name after an arrow
 abbrev pub arrowed : List ℕ → List ℕ
 arrowed name = codes " -> " ++ name
@@ -89,7 +105,7 @@ reason_sentence file (reason.BadCount at) =
     codes "a count ends at 1 to 255, and its first number is at most its second"
 reason_sentence file reason.NoRule = codes "the file has no rule"
 reason_sentence file (reason.Duplicate name at) = rule_sentence name.now (codes " is defined twice")
-reason_sentence file (reason.Undefined name at) = rule_sentence name.now (codes " is not defined")
+reason_sentence file (reason.Undefined name at) = undefined_sentence file name.now at
 reason_sentence file reason.TooManyParts = codes "the grammar has more than 4194304 parts"
 reason_sentence file (reason.EmptyLoop rule at) =
     codes "this repetition matches the empty text again and again, in " ++ rule.now

@@ -1,7 +1,8 @@
 -- Why a grammar file isn't in the notation, by its bytes from the offset of the error on.
 use Rattle.std.specs.Prelude.{ℕ, ◌+◌, ◌-◌, ◌==◌, Bool, true, false, not, ◌&&◌, ◌||◌, if◌then◌else◌, nat_eq, nat_le}
-use Rattle.std.specs.Prelude.{List, [], ◌∷◌, drop, is_none, length, slice_index}
-use Rattle.std.specs.List.{starts_with}
+use Rattle.std.specs.Prelude.{List, [], ◌∷◌, drop, is_none, length, nat_lt, slice_index, slice_range}
+use Rattle.std.specs.List.{prefix_len, starts_with}
+use Rattle.peg_bytes.specs.Place.{column_at}
 use Rattle.peg_lexer.specs.Lexical.{classed_range, quoted_char}
 use Rattle.peg_lexer.specs.LexicalCode.{count_in_range}
 use Rattle.peg_lexer.specs.Matchers.{many}
@@ -9,7 +10,8 @@ use Rattle.peg_messages.specs.declared.causes.SyntaxCause.{SyntaxCause}
 use Rattle.peg_messages.specs.declared.causes.SyntaxCause.TheVariants.{EndsEarly, ByteOrderMark, OpenComment}
 use Rattle.peg_messages.specs.declared.causes.SyntaxCause.TheVariants.{OpenLiteral, OpenClass, BadEscape, OtherComment}
 use Rattle.peg_messages.specs.declared.causes.SyntaxCause.TheVariants.{Label, BareEscape, Braces, NoBreakSpace, NoArrow}
-use Rattle.peg_messages.specs.declared.causes.SyntaxCause.TheVariants.{Bar, Semicolon, Unexpected}
+use Rattle.peg_messages.specs.declared.causes.SyntaxCause.TheVariants.{Bar, Capture, NamedClass, OpenCount, Semicolon}
+use Rattle.peg_messages.specs.declared.causes.SyntaxCause.TheVariants.{Unexpected}
 
 -- a literal or class without a closing byte
 abbrev pub open_cause : (is_class : Bool) → SyntaxCause
@@ -44,15 +46,40 @@ is_other_arrow rest =
 abbrev pub is_other_brace : List ℕ → Bool
 is_other_brace rest = slice_index rest 0 == 123 && is_none (count_in_range rest)
 
+-- a digit
+abbrev pub is_digit : ℕ → Bool
+is_digit byte = nat_le 48 byte && nat_le byte 57
+
+-- digits, a comma (44) and a closing brace (125)
+abbrev pub is_open_range : List ℕ → Bool
+is_open_range inside =
+    let digits = prefix_len is_digit inside in
+    nat_lt 0 digits && slice_index (drop digits inside) 0 == 44 && slice_index (drop digits inside) 1 == 125
+
+-- a count without its second number, such as `{2,}`
+abbrev pub is_open_count : List ℕ → Bool
+is_open_count rest = slice_index rest 0 == 123 && is_open_range (drop 1 rest)
+
 -- the bytes C2 A0
 abbrev pub is_no_break_space : List ℕ → Bool
 is_no_break_space rest = slice_index rest 0 == 194 && slice_index rest 1 == 160
+
+-- a byte of a name
+abbrev pub is_name_byte : ℕ → Bool
+is_name_byte byte =
+    (nat_le 97 byte && nat_le byte 122) || (nat_le 65 byte && nat_le byte 90)
+    || (nat_le 48 byte && nat_le byte 57) || byte == 95
+
+-- a percent sign, 37, before a name
+abbrev pub is_named_class : List ℕ → Bool
+is_named_class rest = slice_index rest 0 == 37 && is_name_byte (slice_index rest 1)
 
 -- the cause at other bytes: `#` is 35, a backslash 92, `|` is 124 and `;` is 59
 abbrev pub token_cause : (rest : List ℕ) → SyntaxCause
 token_cause rest =
     if slice_index rest 0 == 35 then OpenComment else if slice_index rest 0 == 92 then BareEscape else
-    if is_other_brace rest then Braces else if is_no_break_space rest then NoBreakSpace else
+    if is_open_count rest then OpenCount else if is_other_brace rest then Braces else
+    if is_named_class rest then NamedClass else if is_no_break_space rest then NoBreakSpace else
     if is_other_arrow rest then NoArrow else
     if slice_index rest 0 == 124 then Bar else if slice_index rest 0 == 59 then Semicolon else Unexpected
 
@@ -77,12 +104,6 @@ is_other_comment file at =
     (slice_index file at == 47 && (slice_index file (at + 1) == 42 || slice_index file (at + 1) == 47))
     || (slice_index file at == 42 && byte_before file at == 47)
 
--- a byte of a name
-abbrev pub is_name_byte : ℕ → Bool
-is_name_byte byte =
-    (nat_le 97 byte && nat_le byte 122) || (nat_le 65 byte && nat_le byte 90)
-    || (nat_le 48 byte && nat_le byte 57) || byte == 95
-
 -- a printable byte but `:` and `=`, which could end another sign for the arrow
 abbrev pub can_be_labelled : ℕ → Bool
 can_be_labelled byte = nat_le 33 byte && not (byte == 58) && not (byte == 61)
@@ -92,9 +113,23 @@ abbrev pub is_label : (file : List ℕ) → (at : ℕ) → Bool
 is_label file at =
     slice_index file at == 58 && is_name_byte (byte_before file at) && can_be_labelled (slice_index file (at + 1))
 
+-- the bytes of a line before an offset
+abbrev pub line_before : (file : List ℕ) → (at : ℕ) → List ℕ
+line_before file at = slice_range file (at - (column_at file at - 1)) at
+
+-- an arrow: `<` is 60 and a dash is 45
+abbrev pub has_arrow : List ℕ → Bool
+has_arrow [] = false
+has_arrow (byte ∷ rest) = (byte == 60 && slice_index rest 0 == 45) || has_arrow rest
+
+-- a `<` that begins no arrow, in a line that has one before it
+abbrev pub is_capture : (file : List ℕ) → (at : ℕ) → Bool
+is_capture file at =
+    slice_index file at == 60 && not (slice_index file (at + 1) == 45) && has_arrow (line_before file at)
+
 -- why a grammar file isn't in the notation at an offset
 abbrev pub syntax_cause : (file : List ℕ) → (at : ℕ) → SyntaxCause
 syntax_cause file at =
     if nat_le (length file) at then EndsEarly else if is_at_mark file at then ByteOrderMark else
     if is_other_comment file at then OtherComment else if is_label file at then Label else
-    cause_from at (drop at file)
+    if is_capture file at then Capture else cause_from at (drop at file)

@@ -21,10 +21,16 @@ pub enum SyntaxCause {
     Label,
     /// A backslash is written outside literals and classes.
     BareEscape,
+    /// A count has no second number, as in `{2,}`.
+    OpenCount,
     /// Braces hold something else than a count.
     Braces,
     /// A no-break space is written outside literals, classes and comments.
     NoBreakSpace,
+    /// A class has a name after a percent sign.
+    NamedClass,
+    /// `<` begins a capture in an expression.
+    Capture,
     /// `=`, `:`, `->` or `<` is written in place of the arrow of a definition.
     NoArrow,
     /// A bar separates alternatives.

@@ -105,7 +105,10 @@ fn cause_offset(file: &[u8], at: u32) -> u32
         | SyntaxCause::OtherComment
         | SyntaxCause::Label
         | SyntaxCause::BareEscape
+        | SyntaxCause::OpenCount
         | SyntaxCause::Braces
+        | SyntaxCause::NamedClass
+        | SyntaxCause::Capture
         | SyntaxCause::NoBreakSpace
         | SyntaxCause::NoArrow
         | SyntaxCause::Bar

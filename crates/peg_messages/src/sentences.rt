@@ -5,7 +5,7 @@ ghost use Rattle.peg_bytes.specs.Place.{max_offset};
 ghost use Rattle.peg_messages.specs.Sentences.{arrow_hint, arrowed, backslash_text, cause_sentence, dash_hint};
 ghost use Rattle.peg_messages.specs.Sentences.{escape_sentence};
 ghost use Rattle.peg_messages.specs.Sentences.{foreign_sentence, name_from, path_text, reason_sentence};
-ghost use Rattle.peg_messages.specs.Sentences.{rule_sentence, token_text};
+ghost use Rattle.peg_messages.specs.Sentences.{is_case_flag, rule_sentence, token_text, undefined_sentence};
 
 use crate::bytes::{byte_at, bytes_after};
 use crate::causes::SyntaxCause;
@@ -14,7 +14,7 @@ use crate::found::write_found;
 use crate::reason::Reason;
 use crate::shown::{Style, write_character};
 use crate::source::part_of;
-use crate::syntax::{is_name_byte, syntax_cause};
+use crate::syntax::{byte_before, is_name_byte, syntax_cause};
 use std::alloc::AllocError;
 
 /// Writes why a grammar file is refused.
@@ -37,7 +37,7 @@ pub(crate) fn write_sentence(
         ),
         Reason::NoRule => out.extend_from_slice(b"the file has no rule"),
         Reason::Duplicate { name, .. } => write_rule(name, b" is defined twice", out),
-        Reason::Undefined { name, .. } => write_rule(name, b" is not defined", out),
+        Reason::Undefined { name, at } => write_undefined(file, name, at, out),
         Reason::TooManyParts => out.extend_from_slice(b"the grammar has more than 4194304 parts"),
         Reason::EmptyLoop { rule, .. } => write_two(
             b"this repetition matches the empty text again and again, in ",
@@ -79,7 +79,10 @@ fn write_cause(
         SyntaxCause::OtherComment
         | SyntaxCause::Label
         | SyntaxCause::BareEscape
+        | SyntaxCause::OpenCount
         | SyntaxCause::Braces
+        | SyntaxCause::NamedClass
+        | SyntaxCause::Capture
         | SyntaxCause::NoBreakSpace
         | SyntaxCause::Bar
         | SyntaxCause::Semicolon => out.extend_from_slice(foreign_sentence(cause)),
@@ -94,7 +97,12 @@ fn foreign_sentence<'a>(cause: SyntaxCause) -> &'a [u8]
         SyntaxCause::OtherComment => b"a comment begins with #",
         SyntaxCause::Label => b"there are no labels: give the part a rule of its own",
         SyntaxCause::BareEscape => b"an escape is written in a literal or a class, as in [\\t]",
+        SyntaxCause::OpenCount => b"a count needs both numbers: write e e+ for two or more",
         SyntaxCause::Braces => b"a count is written {2} or {2,4}",
+        SyntaxCause::NamedClass => {
+            b"there are no named classes: write a class in brackets, as in [a-zA-Z0-9]"
+        }
+        SyntaxCause::Capture => b"there are no captures: give the part a rule of its own",
         SyntaxCause::NoBreakSpace => b"unexpected '\\xC2\\xA0' (no-break space): write a blank",
         SyntaxCause::Bar => b"alternatives are separated by /, not by |",
         SyntaxCause::Semicolon => b"a definition doesn't end in a semicolon",
@@ -192,6 +200,26 @@ fn write_dash_hint(rest: &[u8], out: &mut Vec<u8>) -> Result<(), AllocError>
         return out.extend_from_slice(b": write a dash first in its class, as in [-a]");
     }
     Ok(())
+}
+
+// Writes that no rule has a name, or that a literal can't ignore case.
+fn write_undefined(file: &[u8], name: &str, at: u32, out: &mut Vec<u8>) -> Result<(), AllocError>
+    ensures { OnOk result (out.new.items ≡ out.old.items ++ undefined_sentence file.now name.now at) }
+{
+    if is_case_flag(file, name, at) {
+        return out.extend_from_slice(
+            b"a literal can't ignore case: write a class for each letter, as in [sS] [eE]",
+        );
+    }
+    write_rule(name, b" is not defined", out)
+}
+
+// Returns whether a name is `i`, right after a quote.
+fn is_case_flag(file: &[u8], name: &str, at: u32) -> bool
+    ensures { result ≡ is_case_flag file.now name.now at }
+{
+    let before = byte_before(file, at);
+    name.len() == 1 && byte_at(name.as_bytes(), 0) == b'i' && (before == b'\'' || before == b'"')
 }
 
 // Writes what is wrong with a rule.

@@ -1,14 +1,19 @@
 //! Finding why a grammar file isn't in the notation.
 ghost use Rattle.std.specs.Prelude.{◌≡◌, ◌+◌, ◌<◌, ◌≤◌, length};
+ghost use Rattle.std.specs.List.{prefix_len};
 ghost use Rattle.peg_bytes.specs.Place.{max_offset};
 ghost use Rattle.peg_messages.specs.SyntaxCauses.{byte_before, can_be_labelled, cause_from, inside_length, is_at_mark};
 ghost use Rattle.peg_messages.specs.SyntaxCauses.{is_label, is_name_byte, is_no_break_space, is_other_arrow};
+ghost use Rattle.peg_messages.specs.SyntaxCauses.{has_arrow, is_capture, is_digit, is_named_class, is_open_count};
+ghost use Rattle.peg_messages.specs.SyntaxCauses.{is_open_range, line_before};
 ghost use Rattle.peg_messages.specs.SyntaxCauses.{is_other_brace, is_other_comment, open_cause, opened_cause};
 ghost use Rattle.peg_messages.specs.SyntaxCauses.{syntax_cause, token_cause};
 ghost use Rattle.peg_messages.specs.SyntaxCausesCode.{IsBelow};
 
 use crate::bytes::{byte_at, bytes_after};
 use crate::causes::SyntaxCause;
+use crate::source::part_of;
+use peg_bytes::place;
 use peg_lexer::{chars_before, count_bounds, ranges_before_bracket};
 
 /// Returns why a grammar file isn't in the notation, given the offset at which it is refused. Takes time linear in the
@@ -29,6 +34,9 @@ pub fn syntax_cause(file: &[u8], at: u32) -> SyntaxCause
     }
     if is_label(file, at) {
         return SyntaxCause::Label;
+    }
+    if is_capture(file, at) {
+        return SyntaxCause::Capture;
     }
     cause_from(at, &file[at as usize..])
 }
@@ -58,8 +66,43 @@ fn is_label(file: &[u8], at: u32) -> bool
         && can_be_labelled(byte_at(file, at as usize + 1))
 }
 
-// Returns the byte before an offset, or 0 at the start.
-fn byte_before(file: &[u8], at: u32) -> u8
+// Returns whether `<` is at an offset, in a line that has an arrow before it.
+fn is_capture(file: &[u8], at: u32) -> bool
+    requires in_file { at ≤ length file.now }
+    requires small { at ≤ max_offset }
+    ensures { result ≡ is_capture file.now at }
+{
+    byte_at(file, at as usize) == b'<'
+        && byte_at(file, at as usize + 1) != b'-'
+        && has_arrow(line_before(file, at))
+}
+
+// Returns the bytes of a line before an offset.
+fn line_before(file: &[u8], at: u32) -> &[u8]
+    requires in_file { at ≤ length file.now }
+    requires small { at ≤ max_offset }
+    ensures { result.now ≡ line_before file.now at }
+{
+    let column = place(file, at).column - 1;
+    part_of(file, (at - column) as usize, at as usize)
+}
+
+// Returns whether some bytes have an arrow.
+fn has_arrow(bytes: &[u8]) -> bool
+    ensures { result ≡ has_arrow bytes.now }
+{
+    let mut rest = bytes;
+    'bytes: while let [byte, others @ ..] = rest {
+        if *byte == b'<' && byte_at(others, 0) == b'-' {
+            return true;
+        }
+        rest = others;
+    }
+    false
+}
+
+/// Returns the byte before an offset, or 0 at the start.
+pub(crate) fn byte_before(file: &[u8], at: u32) -> u8
     ensures { result ≡ byte_before file.now at }
 {
     if at == 0 {
@@ -152,7 +195,9 @@ fn token_cause(rest: &[u8]) -> SyntaxCause
     match byte_at(rest, 0) {
         b'#' => SyntaxCause::OpenComment,
         b'\\' => SyntaxCause::BareEscape,
+        _ if is_open_count(rest) => SyntaxCause::OpenCount,
         _ if is_other_brace(rest) => SyntaxCause::Braces,
+        _ if is_named_class(rest) => SyntaxCause::NamedClass,
         _ if is_no_break_space(rest) => SyntaxCause::NoBreakSpace,
         _ if is_other_arrow(rest) => SyntaxCause::NoArrow,
         b'|' => SyntaxCause::Bar,
@@ -166,6 +211,47 @@ fn is_other_brace(rest: &[u8]) -> bool
     ensures { result ≡ is_other_brace rest.now }
 {
     byte_at(rest, 0) == b'{' && count_bounds(rest).is_none()
+}
+
+// Returns whether some bytes begin with a count that has no second number.
+fn is_open_count(rest: &[u8]) -> bool
+    ensures { result ≡ is_open_count rest.now }
+{
+    byte_at(rest, 0) == b'{' && is_open_range(bytes_after(rest, 1))
+}
+
+// Returns whether some bytes begin with digits, a comma and a closing brace.
+fn is_open_range(inside: &[u8]) -> bool
+    ensures { result ≡ is_open_range inside.now }
+{
+    let digits = digit_count(inside);
+    let after = bytes_after(inside, digits);
+    0 < digits && byte_at(after, 0) == b',' && byte_at(after, 1) == b'}'
+}
+
+// Returns the number of digits with which some bytes begin.
+fn digit_count(bytes: &[u8]) -> usize
+    ensures { result ≡ prefix_len is_digit bytes.now }
+{
+    'digits: for count in 0..bytes.len() {
+        if !is_digit(bytes[count]) {
+            return count;
+        }
+    }
+    bytes.len()
+}
+
+fn is_digit(byte: u8) -> bool
+    ensures { result ≡ is_digit byte }
+{
+    48 <= byte && byte <= 57
+}
+
+// Returns whether some bytes begin with a percent sign and a name.
+fn is_named_class(rest: &[u8]) -> bool
+    ensures { result ≡ is_named_class rest.now }
+{
+    byte_at(rest, 0) == b'%' && is_name_byte(byte_at(rest, 1))
 }
 
 // Returns whether some bytes begin with a no-break space.

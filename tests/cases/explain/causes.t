@@ -216,17 +216,83 @@ A backslash begins no token outside literals and classes, and braces hold only c
   A <- \d+
        ^
   [2]
-  $ printf "A <- 'x'{2,}" > g
-  $ pegtool explain g
-  g:1:9: a count is written {2} or {2,4}
-  A <- 'x'{2,}
-          ^
-  [2]
   $ printf "A <- 'x' { return 1 }" > g
   $ pegtool explain g
   g:1:10: a count is written {2} or {2,4}
   A <- 'x' { return 1 }
            ^
+  [2]
+
+A count needs a second number. A comma without digits before it isn't such a count.
+
+  $ printf "A <- 'x'{2,}" > g
+  $ pegtool explain g
+  g:1:9: a count needs both numbers: write e e+ for two or more
+  A <- 'x'{2,}
+          ^
+  [2]
+  $ printf "A <- 'x'{12,}" > g
+  $ pegtool explain g
+  g:1:9: a count needs both numbers: write e e+ for two or more
+  A <- 'x'{12,}
+          ^
+  [2]
+  $ printf "A <- 'x'{,3}" > g
+  $ pegtool explain g
+  g:1:9: a count is written {2} or {2,4}
+  A <- 'x'{,3}
+          ^
+  [2]
+
+LPeg's names of classes have a percent sign. The sign alone is only unexpected.
+
+  $ printf 'A <- %%w+' > g
+  $ pegtool explain g
+  g:1:6: there are no named classes: write a class in brackets, as in [a-zA-Z0-9]
+  A <- %w+
+       ^
+  [2]
+  $ printf 'A <- %% w' > g
+  $ pegtool explain g
+  g:1:6: unexpected '%'
+  A <- % w
+       ^
+  [2]
+
+In peg/leg `<` begins a capture. In a line without an arrow before it, it is another sign for the arrow.
+
+  $ printf "A <- < 'x' >" > g
+  $ pegtool explain g
+  g:1:6: there are no captures: give the part a rule of its own
+  A <- < 'x' >
+       ^
+  [2]
+  $ printf "A <- B\nB < 'x'" > g
+  $ pegtool explain g
+  g:2:3: a definition is written NAME <- EXPRESSION
+  B < 'x'
+    ^
+  [2]
+
+Peggy's `i` after a literal ignores case. After a blank it is a name.
+
+  $ printf 'A <- "select"i' > g
+  $ pegtool explain g
+  g:1:14: a literal can't ignore case: write a class for each letter, as in [sS] [eE]
+  A <- "select"i
+               ^
+  [2]
+  $ printf "A <- 'select' i" > g
+  $ pegtool explain g
+  g:1:15: the rule i is not defined
+  A <- 'select' i
+                ^
+  [2]
+  $ printf "A <- 'select'id" > g
+  $ pegtool explain g
+  g:1:14: the rule id is not defined
+  A <- 'select'id
+               ^
   [2]
 
 A no-break space looks like a space, so it is named.
