@@ -4,7 +4,7 @@ use Rattle.peg_replies.specs.Commands.{parse_task}
 use Rattle.peg_replies.specs.Loaded.{IsLoadedFrom}
 use Rattle.peg_replies.specs.RecordParsers.{IsUnknownName}
 use Rattle.peg_replies.proofs.PreparedLemmas.{file-refuses}
-use Rattle.peg_replies.proofs.prepare.prepare_records.Goals as goal
+use Rattle.peg_replies.proofs.prepare.prepare_by_file.Goals as goal
 
 pub returns-in-Refused : goal.returns-in-Refused
 returns-in-Refused c =
