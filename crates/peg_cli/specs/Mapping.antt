@@ -5,7 +5,7 @@ use Rattle.clap.specs.Matches.{first_value, matched_of, one_text, raw_values}
 use Rattle.clap.specs.declared.parser.matches.Found.{Found}
 use Rattle.peg_cli.specs.Words.{default_coverage_memo, default_profile_memo}
 use Rattle.peg_cli.specs.declared.words.Words.{Words}
-use Rattle.peg_cli.specs.declared.words.Words.TheVariants.{Joined, Help, Table, Check, Code, Lint, Profile, Coverage, Explain, Test, Parse}
+use Rattle.peg_cli.specs.declared.words.Words.TheVariants.{Joined, Help, Table, Check, Code, Lint, Profile, Coverage, Explain, Test, Parse, Records}
 
 -- all values of an argument, in the order of the command line; none if it is not given
 abbrev pub all_values : Found → (id : List ℕ) → List (List ℕ)
@@ -69,8 +69,27 @@ IsCommandOf name found (Test g folders start memo steps) = (name ≡ codes "test
     × (number_at found (codes "memo") ≡ Some memo)
     × (number_at found (codes "steps") ≡ steps)
 IsCommandOf name found (Parse g t start memo steps all rows no_tree show hide text) = (name ≡ codes "parse")
+    × IsFlagAt found (codes "lines") false
     × (first_value found (codes "G") ≡ Some (string_bytes g))
-    × (first_value found (codes "T") ≡ Some (string_bytes t))
+    × (all_values found (codes "T") ≡ string_bytes t ∷ [])
+    × (first_value found (codes "start") ≡ option_map string_bytes start)
+    × (number_at found (codes "memo") ≡ Some memo)
+    × (number_at found (codes "steps") ≡ steps)
+    × IsFlagAt found (codes "all") all
+    × IsFlagAt found (codes "rows") rows
+    × IsFlagAt found (codes "no-tree") no_tree
+    × (first_value found (codes "show") ≡ option_map string_bytes show)
+    × (first_value found (codes "hide") ≡ option_map string_bytes hide)
+    × IsFlagAt found (codes "text") text
+IsCommandOf name found
+    (Records g texts null crlf failed matched start memo steps all rows no_tree show hide text) = (name ≡ codes "parse")
+    × IsFlagAt found (codes "lines") true
+    × (first_value found (codes "G") ≡ Some (string_bytes g))
+    × (all_values found (codes "T") ≡ map string_bytes texts.items)
+    × IsFlagAt found (codes "null") null
+    × IsFlagAt found (codes "crlf") crlf
+    × IsFlagAt found (codes "failed") failed
+    × IsFlagAt found (codes "matched") matched
     × (first_value found (codes "start") ≡ option_map string_bytes start)
     × (number_at found (codes "memo") ≡ Some memo)
     × (number_at found (codes "steps") ≡ steps)

@@ -142,11 +142,11 @@ fn test<'a>(alloc: Global) -> Result<Command<'a>, AllocError> {
 }
 
 fn parse<'a>(alloc: Global) -> Result<Command<'a>, AllocError> {
-    Command::new(alloc, "parse")
+    let parse = Command::new(alloc, "parse")
         .about("Parses a text and prints its tree and the furthest failure")
         .after_help(PARSE_NOTES)
         .arg(grammar_file(alloc))?
-        .arg(text_file(alloc))?
+        .arg(parsed_files(alloc)?)?
         .arg(start_option(alloc))?
         .arg(memo_option(alloc).default_value(DEFAULT_MEMO))?
         .arg(optional_steps_option(alloc))?
@@ -168,17 +168,34 @@ fn parse<'a>(alloc: Global) -> Result<Command<'a>, AllocError> {
             "Prints only the root and the nodes of these rules, as Name,Name",
         ))?
         .arg(hide_option(alloc)?)?
-        .arg(text_flag(alloc)?)
+        .arg(text_flag(alloc)?)?;
+    with_record_options(alloc, parse)
+}
+
+// Adds the options for records.
+fn with_record_options<'a>(alloc: Global, parse: Command<'a>) -> Result<Command<'a>, AllocError> {
+    parse
+        .arg(flag(
+            alloc,
+            "lines",
+            "Parses each record of the texts, or of standard input without texts",
+        ))?
+        .arg(record_null_flag(alloc)?)?
+        .arg(crlf_flag(alloc)?)?
+        .arg(failed_flag(alloc)?)?
+        .arg(matched_flag(alloc)?)
 }
 
 fn grammar_file<'a>(alloc: Global) -> Arg<'a> {
     Arg::new(alloc, "G").help("The grammar file").required(true)
 }
 
-fn text_file<'a>(alloc: Global) -> Arg<'a> {
+// One file, or any number under `--lines`, before, between and after options.
+fn parsed_files<'a>(alloc: Global) -> Result<Arg<'a>, AllocError> {
     Arg::new(alloc, "T")
-        .help("The file to parse")
-        .required(true)
+        .num_args(1..)
+        .help("The file to parse, or any number of files with --lines")
+        .required_unless_present("lines")
 }
 
 // One file, or several under `--coverage`, before, between and after options.
@@ -305,6 +322,35 @@ fn text_flag<'a>(alloc: Global) -> Result<Arg<'a>, AllocError> {
         "Adds the bytes of each printed node without printed children",
     )
     .conflicts_with("no-tree")
+}
+
+fn record_null_flag<'a>(alloc: Global) -> Result<Arg<'a>, AllocError> {
+    flag(
+        alloc,
+        "null",
+        "Records end at a zero byte instead of a line end",
+    )
+    .requires_arg("lines")
+}
+
+fn crlf_flag<'a>(alloc: Global) -> Result<Arg<'a>, AllocError> {
+    flag(
+        alloc,
+        "crlf",
+        "Leaves a CR before a line end out of the record",
+    )
+    .requires_arg("lines")?
+    .conflicts_with("null")
+}
+
+fn failed_flag<'a>(alloc: Global) -> Result<Arg<'a>, AllocError> {
+    flag(alloc, "failed", "Prints only records that don't match").requires_arg("lines")
+}
+
+fn matched_flag<'a>(alloc: Global) -> Result<Arg<'a>, AllocError> {
+    flag(alloc, "matched", "Prints only records that match")
+        .requires_arg("lines")?
+        .conflicts_with("failed")
 }
 
 // The text after the program's help.
@@ -469,6 +515,12 @@ may take time that is exponential in the length of the text.
 A step is one instruction of the grammar's code. With --steps N, a parse that
 takes more than N steps ends with the refusal StepLimit. The number of steps
 depends on the memo.
+
+With --lines, each record of the texts is a text of its own and gives its line, in
+order. The member \"record\" is its number from 1, and positions are within the
+record. A record ends at LF; the last one may lack its end. Texts may have any
+length, and a refused record doesn't stop the others. Lines are printed at the end
+of each block that is read. The status is that of the worst record: 6, 1 or 0.
 
 Status: 0 matched; 1 failed, or partial under --all; 2 the grammar is refused; 3
 wrong arguments, or an unknown rule; 4 a file can't be opened or read, or the

@@ -1,5 +1,5 @@
 //! Parsing the command line arguments.
-ghost use Rattle.std.specs.Prelude.{◌≡◌, ◌≢◌, ◌≤◌, ◌∷◌, ℕ, List, [], IfOk, IfSome, IsErr, None, OkIff, Some, map, option_map, string_bytes, codes, true};
+ghost use Rattle.std.specs.Prelude.{◌≡◌, ◌≢◌, ◌≤◌, ◌∷◌, ℕ, List, [], IfOk, IfSome, IsErr, None, OkIff, Some, map, option_map, string_bytes, codes, false, true};
 ghost use Rattle.clap.specs.Matches.{found_of, first_value, one_text};
 ghost use Rattle.clap.specs.Values.{kind_of};
 ghost use Rattle.clap.specs.declared.parser.matches.Found.{Found};
@@ -28,6 +28,14 @@ error: without '--coverage', profile reads one text
 
 For more information, try '--help'.
 For this command: pegtool profile --help
+";
+
+// The usage error for a parse of several texts.
+const SEVERAL_PARSED_TEXTS: &str = "\
+error: without '--lines', parse reads one text
+
+For more information, try '--help'.
+For this command: pegtool parse --help
 ";
 
 /// What the arguments request.
@@ -107,6 +115,27 @@ pub enum Words {
     Parse {
         g: String,
         t: String,
+        start: Option<String>,
+        memo: u32,
+        steps: Option<u64>,
+        all: bool,
+        rows: bool,
+        no_tree: bool,
+        show: Option<String>,
+        hide: Option<String>,
+        text: bool,
+    },
+    /// Parse each record of the text files `texts` by grammar file `g`, or of standard input without `texts`. Records end
+    /// at a zero byte with `null`, otherwise at LF; with `crlf`, a CR before the LF isn't part of the record. With `failed`
+    /// only records that don't match are printed, with `matched` only those that do. At most one of `null` and `crlf` is
+    /// given, and at most one of `failed` and `matched`. The other fields are those of `Parse`.
+    Records {
+        g: String,
+        texts: Vec<String>,
+        null: bool,
+        crlf: bool,
+        failed: bool,
+        matched: bool,
         start: Option<String>,
         memo: u32,
         steps: Option<u64>,
@@ -212,7 +241,7 @@ fn profile_of(alloc: Global, matches: &ArgMatches<'_>) -> Result<Words, WordsFau
         return coverage_of(alloc, matches);
     }
     let g = file_name(alloc, matches, "G")?;
-    let t = only_file_name(alloc, matches, "T")?;
+    let t = only_file_name(alloc, matches, "T", SEVERAL_TEXTS)?;
     let start = optional_text(alloc, matches, "start")?;
     let memo = memo_size_or(alloc, matches, PROFILE_MEMO)?;
     let steps = step_limit(alloc, matches)?;
@@ -276,9 +305,47 @@ fn parse_of(alloc: Global, matches: &ArgMatches<'_>) -> Result<Words, WordsFault
     ensures asking { IfOk result IsAsking }
     ensures command { IfOk result (IsCommandOf (codes "parse") (found_of matches.now)) }
 {
+    if matches.get_flag("lines") {
+        records_of(alloc, matches)
+    } else {
+        text_of(alloc, matches)
+    }
+}
+
+// A parse of one text.
+fn text_of(alloc: Global, matches: &ArgMatches<'_>) -> Result<Words, WordsFault>
+    ensures asking { IfOk result IsAsking }
+    ensures command { IsFlagAt (found_of matches.now) (codes "lines") false
+        → IfOk result (IsCommandOf (codes "parse") (found_of matches.now)) }
+{
     Ok(Words::Parse {
         g: file_name(alloc, matches, "G")?,
-        t: file_name(alloc, matches, "T")?,
+        t: only_file_name(alloc, matches, "T", SEVERAL_PARSED_TEXTS)?,
+        start: optional_text(alloc, matches, "start")?,
+        memo: memo_size(alloc, matches)?,
+        steps: step_limit(alloc, matches)?,
+        all: matches.get_flag("all"),
+        rows: matches.get_flag("rows"),
+        no_tree: matches.get_flag("no-tree"),
+        show: optional_text(alloc, matches, "show")?,
+        hide: optional_text(alloc, matches, "hide")?,
+        text: matches.get_flag("text"),
+    })
+}
+
+// A parse of the records of texts.
+fn records_of(alloc: Global, matches: &ArgMatches<'_>) -> Result<Words, WordsFault>
+    ensures asking { IfOk result IsAsking }
+    ensures command { IsFlagAt (found_of matches.now) (codes "lines") true
+        → IfOk result (IsCommandOf (codes "parse") (found_of matches.now)) }
+{
+    Ok(Words::Records {
+        g: file_name(alloc, matches, "G")?,
+        texts: file_names(alloc, matches, "T")?,
+        null: matches.get_flag("null"),
+        crlf: matches.get_flag("crlf"),
+        failed: matches.get_flag("failed"),
+        matched: matches.get_flag("matched"),
         start: optional_text(alloc, matches, "start")?,
         memo: memo_size(alloc, matches)?,
         steps: step_limit(alloc, matches)?,
@@ -300,13 +367,18 @@ fn file_name(alloc: Global, matches: &ArgMatches<'_>, id: &str) -> Result<String
     }
 }
 
-// The value of an argument that may have several; a usage error if it has.
-fn only_file_name(alloc: Global, matches: &ArgMatches<'_>, id: &str) -> Result<String, WordsFault>
+// The value of an argument that may have several; a usage error with this text if it has.
+fn only_file_name(
+    alloc: Global,
+    matches: &ArgMatches<'_>,
+    id: &str,
+    several: &str,
+) -> Result<String, WordsFault>
     ensures { IfOk result (λ name. all_values (found_of matches.now) id.now ≡ string_bytes name ∷ []) }
 {
     match matches.get_strs(id) {
         Some([name]) => Ok(String::from_str(alloc, name)?),
-        _ => Err(usage_error(alloc, SEVERAL_TEXTS)),
+        _ => Err(usage_error(alloc, several)),
     }
 }
 

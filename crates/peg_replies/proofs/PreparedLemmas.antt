@@ -1,7 +1,8 @@
 -- Why no record is parsed by a grammar file, and that a file has one reading.
 use Rattle.std.proofs.Common.{◌≡◌, ◌⊎◌, ℕ, ◌+◌, ◌<◌, Bool, List, [], length, replicate, codes, Option, None, Some, inl, inr}
-use Rattle.std.proofs.Common.{false, is_some, refl, sym, ap, ◌∙◌, arith}
+use Rattle.std.proofs.Common.{◌++◌, ◌≤◌, IfSome, false, is_some, refl, sym, ap, ◌∙◌, arith}
 use Rattle.std.proofs.lemmas.List.{length-replicate}
+use Rattle.std.specs.Io.KnownBytes.{Consumes, IsAtEnd}
 use Rattle.peg_bytes.specs.Extent.{between}
 use Rattle.peg_grammar.specs.Limits.{max_text_bytes}
 use Rattle.peg_json.specs.CauseText.{cause_status}
@@ -16,22 +17,29 @@ use Rattle.peg_json.proofs.ParseLemmas.{missing-parses}
 use Rattle.peg_json.proofs.PrintLemmas.{refused-with_text}
 use Rattle.peg_metagrammar.specs.Denotation.{rules_spelled}
 use Rattle.peg_metagrammar.specs.Figure.{figure}
-use Rattle.peg_metagrammar.specs.Notation.{IsReading}
+use Rattle.peg_metagrammar.specs.Notation.{IsReading, max_file_bytes}
 use Rattle.peg_parser.specs.Accepts.{Accepts}
 use Rattle.peg_parser.specs.Cause.{Cause, NoSuchRule, NoSuchStart}
 use Rattle.peg_parser.specs.Refusals.{HasTooMuchCode, IsIllFormed, IsNoGrammar, code_too_large, file_too_long}
 use Rattle.peg_parser.specs.Refusals.{not_in_the_notation, count_out_of_range, too_nested, a_name_twice, a_name_missing}
 use Rattle.peg_parser.specs.Refusals.{too_many_parts, empty_loop, left_recursion}
+use Rattle.peg_parser.specs.declared.options.ParseOptions.{ParseOptions}
 use Rattle.peg_semantics.specs.Form.{Name}
 use Rattle.peg_semantics.specs.Record.{Matched, Record}
 use Rattle.peg_semantics.specs.Rules.{Rule}
 use Rattle.peg_semantics.specs.Starts.{start_name}
 use Rattle.peg_semantics.proofs.RecordLemmas.{one_record}
+use Rattle.peg_replies.specs.Commands.{parse_task}
 use Rattle.peg_replies.specs.PrintedNodes.{PrintedNodes, first_unknown, shown_by}
+use Rattle.peg_replies.specs.RecordParsers.{IsPreparedFor}
 use Rattle.peg_replies.specs.RecordReplies.{RefusesRecords}
 use Rattle.peg_replies.specs.Replies.{IsPrinted, RepliesTo, refused_grammar, refused_form, too_large, accepted}
 use Rattle.peg_replies.specs.Replies.{no_such_rule, parsed}
 use Rattle.peg_replies.specs.Task.{Checks, CheckTask, ParseTask, ToolTask, default_task}
+use Rattle.peg_replies.specs.declared.prepare.Prepared.{Prepared}
+use Rattle.peg_replies.specs.declared.prepare.Prepared.TheVariants as prepared
+use Rattle.peg_replies.specs.declared.tree_printing.TreePrinting.{TreePrinting}
+use Rattle.peg_replies.proofs.RunLemmas.{IsPrinted-front, right-held}
 
 -- ---- the reading of a file
 
@@ -154,3 +162,25 @@ file-refuses line file task checks is = (is task [] checks, inl (with-longer max
         let read = is default_task text tt in
         both-statuses (status_code line.status) (status_of checked.0) (status_of read.0) checked.3
         (check-status file [] checked.0 checked.1) read.3 (long-status file text read.0 long read.1)
+
+-- ---- the bytes read of a file
+
+-- what is known of a prefix over the limit of a file is known of the file
+prepared-front : (options : ParseOptions) (printing : TreePrinting) (known : Prepared) (front rest : List ℕ)
+    → max_file_bytes + 1 ≤ length front → IsPreparedFor front options printing known
+    → IsPreparedFor (front ++ rest) options printing known
+prepared-front options printing (prepared.Ready parser) front rest long is =
+    absurd (omega (arith, long, is.0.accepts.read.within))
+prepared-front options printing (prepared.Refused line) front rest long is = (
+  IsPrinted-front (parse_task options printing) [] front rest (line_bytes line) (status_code line.status) long is.0,
+  is.1,
+)
+
+-- what is known of the bytes read of a file is known of the file
+pub prepared-held : (options : ParseOptions) (printing : TreePrinting) (known : Prepared) (left new : Option (List ℕ))
+    (held : List ℕ) → Consumes left new held → length held ≤ max_file_bytes + 1
+    → (length held < max_file_bytes + 1 → IsAtEnd new) → IsPreparedFor held options printing known
+    → IfSome left (λ file. IsPreparedFor file options printing known)
+prepared-held options printing known left new held consumed within end is =
+    right-held (λ (file line : List ℕ) (status : ℕ). IsPreparedFor file options printing known) (max_file_bytes + 1)
+    (λ front rest line status. prepared-front options printing known front rest) left new held [] 0 consumed within end is

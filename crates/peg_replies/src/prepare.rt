@@ -1,5 +1,5 @@
 //! What is known of a grammar file before records are parsed by it.
-ghost use Rattle.std.specs.Prelude.{◌≡◌, ◌≤◌, List, IfOk, None, is_some, length, ℕ};
+ghost use Rattle.std.specs.Prelude.{◌≡◌, ◌≤◌, ◌↔◌, List, IfOk, IfSome, IsErrOf, None, false, is_some, length, true, ℕ};
 ghost use Rattle.peg_bytes.specs.Place.{max_offset};
 ghost use Rattle.peg_parser.specs.Accepts.{Accepts};
 ghost use Rattle.peg_parser.specs.Parser.{parser_rules, start_named};
@@ -10,7 +10,9 @@ use crate::loading::{Loaded, load};
 use crate::parse::printed_rules;
 use crate::record_parser::RecordParser;
 use crate::tree_printing::TreePrinting;
+use peg_io::{ReadFault, Source, read_up_to};
 use peg_json::{Line, no_rule_line, no_start_line};
+use peg_notation::MAX_FILE_BYTES;
 use peg_parser::{ParseOptions, Parser};
 use std::alloc::{AllocError, Global};
 
@@ -23,9 +25,26 @@ pub enum Prepared<'a> {
     Refused(Line),
 }
 
-/// Reads a grammar file for a parse of records. A refused file, a listed name and a start that no rule has are reported
-/// by a line. The only error is a failed allocation.
-pub fn prepare_records<'a>(
+/// Reads a grammar file for a parse of records, and at most 1,048,577 bytes of it. A line reports a refused file, and a
+/// listed name or a start that no rule has. Returns `Device` if a read fails, and `Memory` if an allocation fails.
+pub fn prepare_records<'a, G: Source>(
+    alloc: Global,
+    grammar: &mut G,
+    options: ParseOptions<'a>,
+    printing: TreePrinting<'a>,
+) -> Result<Prepared<'a>, ReadFault>
+    requires { G.failed grammar.old ≡ false }
+    ensures prepared { IfSome (G.left grammar.old) (λ file.
+        IfOk result (IsPreparedFor file options.entry printing.entry)) }
+    ensures device { IsErrOf result ReadFault.Device ↔ (G.failed grammar.new ≡ true) }
+    ensures never { G.never_fails grammar.old ≡ true → G.failed grammar.new ≡ false }
+{
+    let file = read_up_to(alloc, grammar, MAX_FILE_BYTES + 1)?;
+    Ok(prepare_by_file(alloc, &file, options, printing)?)
+}
+
+// What is known of a grammar file with these bytes.
+fn prepare_by_file<'a>(
     alloc: Global,
     file: &[u8],
     options: ParseOptions<'a>,

@@ -1,20 +1,20 @@
-use Rattle.std.proofs.Common.{subst}
-use Rattle.peg_parser.specs.Parser.{parser_rules}
-use Rattle.peg_replies.specs.Commands.{parse_task}
-use Rattle.peg_replies.specs.Loaded.{IsLoadedFrom}
-use Rattle.peg_replies.specs.RecordParsers.{IsUnknownName}
-use Rattle.peg_replies.proofs.PreparedLemmas.{file-refuses}
+use Rattle.std.proofs.Common.{ℕ, ◌+◌, ◌<◌, ◌≤◌, List, length, subst, arith}
+use Rattle.std.specs.Io.KnownBytes.{IsAtEnd}
+use Rattle.peg_metagrammar.specs.Notation.{max_file_bytes}
+use Rattle.peg_replies.specs.RecordParsers.{IsPreparedFor}
+use Rattle.peg_replies.proofs.PreparedLemmas.{prepared-held}
 use Rattle.peg_replies.proofs.prepare.prepare_records.Goals as goal
 
-pub returns-in-Refused : goal.returns-in-Refused
-returns-in-Refused c =
-    let file = c.args.file.now in
-    file-refuses c.in-Refused.line file (parse_task c.args.options c.args.printing) tt
-    (subst (IsLoadedFrom file) c.in-Refused.is c.in_ok-parser.ensures)
-
-pub returns-in-Some : goal.returns-in-Some
-returns-in-Some c =
-    let file = c.args.file.now in
-    let accepts = subst (IsLoadedFrom file) c.in-Accepted.is c.in_ok-parser.ensures in
-    subst (IsUnknownName file (parser_rules c.in-Accepted.parser) c.args.options c.args.printing) c.in-Some.is
-    (c.in_ok-line.ensures file accepts)
+pub returns-clause-prepared : goal.returns-clause-prepared
+returns-clause-prepared g c =
+    let options = c.args.options in
+    let printing = c.args.printing in
+    let held = c.in_ok-file.file in
+    let known = c.in_ok-prepare_by_file.field-0 in
+    let for_held = subst (λ (bytes : List ℕ). IsPreparedFor bytes options printing known) c.deref.ensures.value
+    c.in_ok-prepare_by_file.ensures in
+    let within : length held.items ≤ max_file_bytes + 1 = omega (arith, held.ok.0, c.in_ok-file.ensures.limit) in
+    let at_end : length held.items < max_file_bytes + 1 → IsAtEnd (g.G.Source.left c.read_up_to.new.input) =
+    λ less. c.in_ok-file.ensures.end (omega (arith, held.ok.0)) in
+    prepared-held options printing known (g.G.Source.left c.args.grammar.now) (g.G.Source.left c.read_up_to.new.input)
+    held.items c.in_ok-file.ensures.bytes within at_end for_held

@@ -127,3 +127,24 @@ returns-in_err-test-in-Test-clause-named g c =
     (passed-among (standard_output ∷ []) _ passed.result
     (at-among _ (standard_output ∷ []) standard_output _ c.in_err-test-in-Test.ensures.named
     (first-among standard_output [])) passed.ensures.1)
+
+pub returns-in_err-on_records-in-Records-clause-leads : goal.returns-in_err-on_records-in-Records-clause-leads
+returns-in_err-on_records-in-Records-clause-leads g c =
+    let passed = c.from_residual-in_err-on_records-in-Records in
+    subst (λ (r : ToolRequest). RequestOutcome r (g.O.Opener.file_at c.args.files.now) (g.I.Source.left c.args.input.now)
+    (g.W.Sink.written c.args.output.now) (g.W.Sink.written c.on_records.new.output) (plain_result passed.result))
+    c.in-Records.ensures (
+      plain_result c.on_records.result,
+      c.on_records.ensures.leads,
+      done-fault c.on_records.result _ passed.result c.in_err-on_records-in-Records.was passed.ensures.1,
+    )
+
+pub returns-in_ok-on_records-in-Records-clause-leads : goal.returns-in_ok-on_records-in-Records-clause-leads
+returns-in_ok-on_records-in-Records-clause-leads g c =
+    let it = report.Done c.in_ok-on_records-in-Records.field-0 in
+    subst (λ (r : ToolRequest). RequestOutcome r (g.O.Opener.file_at c.args.files.now) (g.I.Source.left c.args.input.now)
+    (g.W.Sink.written c.args.output.now) (g.W.Sink.written c.on_records.new.output) (Ok it)) c.in-Records.ensures (
+      plain_result c.on_records.result,
+      c.on_records.ensures.leads,
+      done-status c.on_records.result _ c.in_ok-on_records-in-Records.was,
+    )
