@@ -13,11 +13,11 @@ from reference import FAILS, NOTHING, SPACING, Expr, Grammar, Reader, expression
 
 # The kinds in the order of the two tables of LINT.md.
 PROVED = ("UnusedRule", "NeverMatches", "NeverTried", "AlwaysFails", "NoEffect", "SameAlternative", "Shadowed",
-          "NeverStops", "ReversedRange")
+          "NeverStops", "NeverFollows", "TakesNothing", "ReversedRange")
 HABITS = ("EmptyAlternative", "AnyAtEnd", "ClassBeginsWithCaret", "ClassEndsInRange", "RangeOverSigns", "HoldsLineEnd",
           "HighBytesInClass", "BlanksInClass", "RepeatedByte")
 KINDS = PROVED + HABITS
-MAY_BE_MISSED = frozenset({"SameAlternative", "Shadowed", "NeverStops"})
+MAY_BE_MISSED = frozenset({"SameAlternative", "Shadowed", "NeverStops", "NeverFollows", "TakesNothing"})
 PREDICATES = ("and", "not")
 
 
