@@ -3,8 +3,8 @@ Python package and the library that `make lib` builds.
 
 A part with a warning is replaced by what the warning says of it, and no parse may change: an alternative that is never
 tried or never taken, an item that stops its sequence, a part that never matches and a predicate that always fails by
-`[]`, an item that takes nothing by an and-predicate, an operator without effect by `''` or its part, a reversed range by
-nothing. An unused rule has no node."""
+`[]`, an item that takes nothing by an and-predicate, an operator without effect by `''` or its part, a reversed range
+by nothing. An unused rule has no node."""
 import pathlib
 import re
 import sys

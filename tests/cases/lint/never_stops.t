@@ -71,8 +71,8 @@ The star of `'ab'` ends before a byte a that no b follows.
   $ printf "S <- 'ab'* 'a'" | pegtool lint /dev/stdin
   {"warnings":[]}
 
-What docs/LINT.md says that isn't found: an item after a repetition over a part of several bytes, or over a sequence that
-may fail after its first byte. The star takes each ab, so that none is left for the literal.
+What docs/LINT.md says that isn't found: an item after a repetition over a part of several bytes. The star takes each
+ab, so that none is left for the literal.
 
   $ printf "S <- 'ab'* 'ab'" | pegtool lint /dev/stdin
   {"warnings":[]}

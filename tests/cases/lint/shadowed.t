@@ -89,8 +89,8 @@ A rule that needs a second byte may fail where the text begins as the later alte
   $ printf "S <- W / 'if'\nW <- [a-z] [0-9]" | pegtool lint /dev/stdin
   {"warnings":[]}
 
-What docs/LINT.md says that isn't found: an alternative that several earlier ones shadow together, or that is shadowed by
-a literal of several bytes in a rule.
+What docs/LINT.md says that isn't found: an alternative that several earlier ones shadow together, or that is shadowed
+by a literal of several bytes in a rule.
 
   $ printf "S <- [a-m] / [n-z] / [a-z]" | pegtool lint /dev/stdin
   {"warnings":[]}
