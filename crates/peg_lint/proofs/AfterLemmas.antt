@@ -1,10 +1,10 @@
 -- What the edges of two expressions say of one where the other ends, or where the other fails.
-use Rattle.std.proofs.Common.{◌≡◌, ℕ, zero, suc, ◌+◌, ◌<◌, ◌⊎◌, inl, inr, Bool, true, false, ◌||◌, IsTrue, List, [], ◌∷◌, drop}
-use Rattle.std.proofs.Common.{Some, refl, sym, ap, ◌∙◌, subst, arith}
+use Rattle.std.proofs.Common.{◌≡◌, ℕ, zero, suc, ◌+◌, ◌<◌, inl, inr, Bool, true, false, ◌||◌, List, [], ◌∷◌, drop}
+use Rattle.std.proofs.Common.{Some, refl, sym, ap, ◌∙◌, subst}
 use Rattle.peg_bytes.specs.Extent.{Extent}
 use Rattle.peg_tree.specs.Trees.{Trees}
 use Rattle.peg_semantics.specs.Form.{Form, Forms, Seq, End, Then, terminals}
-use Rattle.peg_semantics.specs.Record.{Recognition, Failed, Matched, Record, IsRecord, prepend_trees, recognize_seq, record_in}
+use Rattle.peg_semantics.specs.Record.{Recognition, Failed, Matched, Record, prepend_trees, recognize_seq, record_in}
 use Rattle.peg_semantics.specs.Rules.{Rule}
 use Rattle.peg_semantics.proofs.ResultSteps.{begins_with, then_cases}
 use Rattle.peg_lint.specs.Edges.{Edges, edges_in}
@@ -12,7 +12,7 @@ use Rattle.peg_lint.specs.Known.{BeginsWithin, IsTaken}
 use Rattle.peg_lint.specs.Never.{FailsAfter, FailsWhere, MatchesNoByteAfter, NeverMatches}
 use Rattle.peg_lint.specs.Warnings.{FollowsIn}
 use Rattle.peg_lint.proofs.EdgeLemmas.{Fits, Matches, none_or_some}
-use Rattle.peg_lint.proofs.EdgeRecords.{Holds, Onward, edges-hold}
+use Rattle.peg_lint.proofs.EdgeRecords.{Onward, edges-hold}
 
 -- no result is both a failure and a match
 not_both : (x : Recognition) (end : ℕ) (trees : Trees) → x ≡ Failed → x ≡ Matched end trees → ⊥

@@ -1,14 +1,14 @@
 -- What the edges of parts say of records is preserved by the forms of expressions.
-use Rattle.std.proofs.Common.{◌≡◌, ℕ, zero, suc, ◌+◌, ◌<◌, ◌≤◌, ◌⊎◌, inl, inr, Bool, true, false, ◌&&◌, ◌||◌, not, ◌==◌, nat_eq}
+use Rattle.std.proofs.Common.{◌≡◌, ℕ, suc, ◌+◌, ◌<◌, ◌≤◌, ◌⊎◌, inl, inr, Bool, true, false, ◌&&◌, ◌||◌, not, ◌==◌, nat_eq}
 use Rattle.std.proofs.Common.{List, [], ◌∷◌, length, drop, refl, sym, ap, ◌∙◌, subst, arith, eq-eqb}
 use Rattle.std.proofs.lemmas.Bool.{cases_lt}
 use Rattle.std.proofs.lemmas.Bool.Decides.{nat_tests}
 use Rattle.std.specs.List.{starts_with}
-use Rattle.peg_tree.specs.Trees.{Trees, NoTrees}
+use Rattle.peg_tree.specs.Trees.{Trees}
 use Rattle.peg_semantics.specs.Record.{Recognition, Failed, Matched, prepend_trees, if_matched, if_failed, literal_at, byte_at, as_tree}
 use Rattle.peg_semantics.proofs.ResultSteps.{begins_with, byte_at-failed, byte_at-matched, literal_at-failed, literal_at-matched, passes_any, starts_with-rest}
 use Rattle.peg_semantics.proofs.RoundsLemmas.{or_right}
-use Rattle.peg_lint.specs.Edges.{Edges, any_edges, and_edges, byte_edges, choice_edges, count_edges, each_byte, empty_edges, fail_edges}
+use Rattle.peg_lint.specs.Edges.{Edges, any_edges, and_edges, byte_edges, choice_edges, count_edges, each_byte, empty_edges}
 use Rattle.peg_lint.specs.Edges.{literal_edges, no_byte, not_edges, optional_edges, plus_edges, seq_edges, star_edges}
 
 -- what is known of a match that begins at a position and ends at another one

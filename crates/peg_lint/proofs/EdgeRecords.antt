@@ -1,6 +1,6 @@
 -- What the edges of an expression say is true of its records.
-use Rattle.std.proofs.Common.{◌≡◌, ◌≢◌, ℕ, zero, suc, ◌+◌, ◌<◌, ◌≤◌, ◌⊎◌, inl, inr, Bool, true, false, ◌||◌, ◌==◌, List, [], ◌∷◌, drop}
-use Rattle.std.proofs.Common.{Option, None, Some, option_map, option_and_then, refl, sym, ap, ◌∙◌, subst, arith}
+use Rattle.std.proofs.Common.{◌≡◌, ℕ, zero, suc, ◌+◌, ◌≤◌, true, ◌||◌, ◌==◌, List, drop}
+use Rattle.std.proofs.Common.{Option, None, Some, option_map, option_and_then, refl, ap, subst}
 use Rattle.peg_bytes.specs.ByteSet.{has}
 use Rattle.peg_bytes.specs.Extent.{Extent}
 use Rattle.peg_tree.specs.Trees.{Trees}
@@ -9,13 +9,13 @@ use Rattle.peg_semantics.specs.Form.{End, Then, terminals}
 use Rattle.peg_semantics.specs.Record.{Recognition, Failed, Matched, Record, IsRecord, as_call, byte_at, if_failed, if_matched, literal_at}
 use Rattle.peg_semantics.specs.Record.{matched_at, recognize_choice, recognize_repeat, recognize_seq, record_in, with_result}
 use Rattle.peg_semantics.specs.Rules.{Rule, Meaning, meaning_of}
-use Rattle.peg_semantics.proofs.ResultSteps.{begins_with, map_cases, or_cases, passes_any, rounds_cases, some_case, then_cases}
+use Rattle.peg_semantics.proofs.ResultSteps.{map_cases, or_cases, passes_any, rounds_cases, some_case, then_cases}
 use Rattle.peg_semantics.proofs.RoundsLemmas.{or_right}
 use Rattle.peg_lint.specs.Edges.{Edges, alternatives_edges, and_edges, any_edges, byte_edges, choice_edges, count_edges, edges_by, edges_in}
-use Rattle.peg_lint.specs.Edges.{empty_edges, items_edges, literal_edges, meaning_edges, no_byte, not_edges, optional_edges}
+use Rattle.peg_lint.specs.Edges.{empty_edges, items_edges, literal_edges, meaning_edges, not_edges, optional_edges}
 use Rattle.peg_lint.specs.Edges.{plus_edges, seq_edges, star_edges, fail_edges, unknown_edges}
-use Rattle.peg_lint.proofs.EdgeLemmas.{Fails, Fails-count, Fails-seq, Fits, Fits-and, Fits-any, Fits-as_tree, Fits-byte, Fits-choice}
-use Rattle.peg_lint.proofs.EdgeLemmas.{Fits-count, Fits-empty, Fits-literal, Fits-not, Fits-plus, Fits-seq, Fits-star, Matches}
+use Rattle.peg_lint.proofs.EdgeLemmas.{Fails-count, Fails-seq, Fits, Fits-and, Fits-any, Fits-as_tree, Fits-byte, Fits-choice}
+use Rattle.peg_lint.proofs.EdgeLemmas.{Fits-count, Fits-empty, Fits-literal, Fits-not, Fits-plus, Fits-seq, Fits-star}
 use Rattle.peg_lint.proofs.EdgeLemmas.{Matches-choice, Matches-count, Matches-none, Matches-optional, Matches-star, front-none}
 
 -- what is known of an expression is true of its records

@@ -1,15 +1,15 @@
 -- What is known of the rules of a grammar, in tables and loops.
 use Rattle.std.proofs.Common.{◌≡◌, ℕ, zero, suc, ◌+◌, ◌<◌, ◌≤◌, List, [], ◌∷◌, ◌++◌, length, map, get_or, drop, slice_get, slice_index_or}
-use Rattle.std.proofs.Common.{position, bytes_eq, Option, None, Some, option_map, refl, sym, ap, ◌∙◌, subst, arith, append_assoc, append-nil}
+use Rattle.std.proofs.Common.{position, bytes_eq, Option, None, Some, option_map, refl, sym, ap, ◌∙◌, arith, append_assoc, append-nil}
 use Rattle.std.proofs.Math.ListN.{drop_of_length-le}
 use Rattle.std.proofs.lemmas.List.{length-map, map-append}
 use Rattle.std.proofs.lemmas.Option.{slice_get-map, slice_get-get_or}
 use Rattle.peg_grammar.specs.declared.expr.Expr.{Expr}
 use Rattle.peg_grammar.specs.Written.{form_of}
 use Rattle.peg_grammar.proofs.LoopLemmas.{forms-drop, forms-drop_all}
-use Rattle.peg_semantics.specs.Form.{Form, Forms, Then, forms}
+use Rattle.peg_semantics.specs.Form.{Form, forms}
 use Rattle.peg_semantics.specs.Numbers.{first_from}
-use Rattle.peg_semantics.specs.Rules.{Rule, Meaning, meaning_of, names}
+use Rattle.peg_semantics.specs.Rules.{Rule, meaning_of, names}
 use Rattle.peg_semantics.proofs.RulesLemmas.{meaning, meant-no_position, meant-position, position-within}
 use Rattle.peg_lint.specs.Edges.{Edges, alternatives_edges, choice_edges, edges_by, edges_in, empty_edges, fail_edges, items_edges, meaning_edges, seq_edges, unknown_edges}
 use Rattle.peg_lint.specs.Known.{AreKnown, known_in, known_of}

@@ -1,16 +1,16 @@
 -- An item after a star or a plus fails wherever the repetition ends, if it fails wherever the repeated part fails.
-use Rattle.std.proofs.Common.{◌≡◌, inl, inr, ℕ, zero, suc, ◌+◌, ◌<◌, List, [], ◌∷◌, length, map, get_or, Some, refl, sym, ap, ◌∙◌, subst, arith}
+use Rattle.std.proofs.Common.{◌≡◌, inl, inr, ℕ, zero, suc, ◌+◌, ◌<◌, List, [], ◌∷◌, length, map, get_or, Some, sym, ap, ◌∙◌, subst, arith}
 use Rattle.peg_bytes.specs.Extent.{Extent}
 use Rattle.peg_grammar.specs.Written.{form_of}
 use Rattle.peg_grammar.specs.declared.expr.Expr.{Expr}
 use Rattle.peg_tree.specs.Trees.{Trees}
-use Rattle.peg_semantics.specs.Form.{Form, Forms, Literal, Class, Any, Name, Seq, Choice, Optional, Star, Plus, Counted, And, Not}
-use Rattle.peg_semantics.specs.Form.{End, Then, forms, terminals}
-use Rattle.peg_semantics.specs.Record.{Recognition, Failed, Matched, Record, IsRecord, prepend_trees, recognize_seq, record_in}
+use Rattle.peg_semantics.specs.Form.{Form, Literal, Class, Any, Name, Seq, Choice, Optional, Star, Plus, Counted, And, Not}
+use Rattle.peg_semantics.specs.Form.{forms}
+use Rattle.peg_semantics.specs.Record.{Recognition, Failed, Matched, Record, IsRecord, prepend_trees, record_in}
 use Rattle.peg_semantics.specs.Rules.{Rule}
 use Rattle.peg_semantics.proofs.ResultSteps.{rounds_cases, then_cases}
 use Rattle.peg_lint.specs.Warnings.{FollowsIn, IsRepeatOf}
-use Rattle.peg_lint.specs.Never.{FailsAfter, FailsWhere, NeverMatches}
+use Rattle.peg_lint.specs.Never.{FailsAfter, FailsWhere}
 
 module _ (rules : List Rule) (text : List ℕ) where
   -- the expression fails at a position

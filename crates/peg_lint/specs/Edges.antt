@@ -2,7 +2,7 @@
 -- followed through a number of rules. What an expression may do by it, it need not do on any text.
 use Rattle.std.specs.Prelude.{ℕ, zero, suc, Bool, true, false, ◌&&◌, ◌||◌, not, ◌==◌, nat_lt, List, [], ◌∷◌, length, Option, None}
 use Rattle.std.specs.Prelude.{Some}
-use Rattle.peg_bytes.specs.ByteSet.{Bytes, has}
+use Rattle.peg_bytes.specs.ByteSet.{has}
 use Rattle.peg_semantics.specs.Form.{Form, Forms, Literal, Class, Any, Name, Seq, Choice, Optional, Star, Plus, Counted}
 use Rattle.peg_semantics.specs.Form.{And, Not, End, Then}
 use Rattle.peg_semantics.specs.Rules.{Rule, Meaning, meaning_of}

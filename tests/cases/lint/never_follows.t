@@ -62,7 +62,7 @@ The rule W may end after a digit, and then a letter may follow. In the second gr
 The empty class fails everywhere, so it has no warning after other items either.
 
   $ printf "S <- T / 'x'\nT <- !'a' F\nF <- []" | pegtool lint /dev/stdin
-  {"warnings":[{"column":6,"end":6,"kind":"NeverMatches","line":1,"proved":true,"rule":"S","start":5},{"column":6,"end":11,"kind":"NeverMatches","line":2,"proved":true,"rule":"T","start":18},{"column":11,"end":11,"kind":"NeverMatches","line":2,"proved":true,"rule":"T","start":23}]}
+  {"warnings":[{"column":6,"end":6,"kind":"NeverMatches","line":1,"proved":true,"rule":"S","start":5},{"column":6,"end":24,"kind":"NeverMatches","line":2,"proved":true,"rule":"T","start":18},{"column":11,"end":24,"kind":"NeverMatches","line":2,"proved":true,"rule":"T","start":23}]}
   [1]
 
 What docs/LINT.md says that isn't found: an item after an and-predicate, a dot after `!.`, and an item that isn't next

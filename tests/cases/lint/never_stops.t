@@ -71,8 +71,14 @@ The star of `'ab'` ends before a byte a that no b follows.
   $ printf "S <- 'ab'* 'a'" | pegtool lint /dev/stdin
   {"warnings":[]}
 
-What docs/LINT.md says that isn't found: an item after a repetition over a part of several bytes. The star takes each
-ab, so that none is left for the literal.
+A literal of several bytes is compared with the literal that is repeated.
 
-  $ printf "S <- 'ab'* 'ab'" | pegtool lint /dev/stdin
+  $ printf "S <- 'ab'* 'abc'" | pegtool lint /dev/stdin
+  {"warnings":[{"by":[5,10],"column":12,"end":16,"kind":"NeverStops","line":1,"proved":true,"rule":"S","start":11}]}
+  [1]
+
+What docs/LINT.md says that isn't found: an item after a repetition over a sequence that may fail after its first byte.
+The star takes each ab, so that none is left for the literal.
+
+  $ printf "S <- ('a' 'b')* 'ab'" | pegtool lint /dev/stdin
   {"warnings":[]}

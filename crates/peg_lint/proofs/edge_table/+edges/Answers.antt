@@ -1,4 +1,4 @@
-use Rattle.std.proofs.Common.{◌≡◌, ℕ, suc, ◌+◌, ◌-◌, ◌<◌, ◌≤◌, List, length, map, get_or, drop, refl, sym, ap, ◌∙◌, subst, arith}
+use Rattle.std.proofs.Common.{◌≡◌, ℕ, ◌+◌, ◌-◌, ◌<◌, List, length, map, drop, sym, ap, ◌∙◌, arith}
 use Rattle.peg_bytes.specs.Extent.{extent}
 use Rattle.peg_bytes.specs.ByteSet.{bytes_of}
 use Rattle.peg_grammar.proofs.WrittenForms.{form_of-And, form_of-Choice, form_of-Counted, form_of-Name, form_of-Not, form_of-Optional}
@@ -8,11 +8,10 @@ use Rattle.peg_grammar.specs.Written.{form_of}
 use Rattle.peg_grammar.specs.declared.expr.Expr.{Expr}
 use Rattle.peg_semantics.specs.Form as form
 use Rattle.peg_semantics.specs.Form.{Form, Forms, forms}
-use Rattle.peg_semantics.specs.Rules.{Rule, meaning_of}
-use Rattle.peg_lint.specs.Edges.{Edges, alternatives_edges, and_edges, choice_edges, count_edges, edges_by, edges_in, items_edges}
-use Rattle.peg_lint.specs.Edges.{literal_edges, meaning_edges, not_edges, optional_edges, plus_edges, seq_edges, star_edges}
-use Rattle.peg_lint.specs.Known.{AreKnown, known_of}
-use Rattle.peg_lint.proofs.EdgeTableLemmas.{alternatives-end, alternatives-from, by-form, items-end, items-from, of-part}
+use Rattle.peg_lint.specs.Edges.{Edges, alternatives_edges, and_edges, choice_edges, count_edges, edges_in, items_edges}
+use Rattle.peg_lint.specs.Edges.{literal_edges, not_edges, optional_edges, plus_edges, seq_edges, star_edges}
+use Rattle.peg_lint.specs.Known.{known_of}
+use Rattle.peg_lint.proofs.EdgeTableLemmas.{alternatives-from, by-form, items-from, of-part}
 use Rattle.peg_lint.proofs.PartLemmas.{form_of-Any, form_of-Class, form_of-Literal}
 use Rattle.peg_lint.proofs.edge_table.+edges.Goals as goal
 

@@ -1,4 +1,4 @@
-use Rattle.std.proofs.Common.{◌≡◌, ℕ, suc, length, ◌+◌, List, sym, ap, ◌∙◌, subst, arith}
+use Rattle.std.proofs.Common.{◌≡◌, suc, length, ◌+◌, List, sym, ap, ◌∙◌, subst, arith}
 use Rattle.peg_grammar.specs.GrammarRules.{rules_in}
 use Rattle.peg_lint.specs.Known.{AreKnown}
 use Rattle.peg_lint.specs.declared.edges.Edges as code

@@ -1,4 +1,4 @@
-use Rattle.std.proofs.Common.{◌≡◌, ◌∙◌, sym, arith}
+use Rattle.std.proofs.Common.{◌∙◌, sym, arith}
 use Rattle.peg_grammar.specs.GrammarRules.{rules_in}
 use Rattle.peg_semantics.proofs.RulesLemmas.{position-within}
 use Rattle.peg_lint.proofs.EdgeTableLemmas.{known-name, unknown-name}

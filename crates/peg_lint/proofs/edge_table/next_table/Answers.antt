@@ -1,4 +1,4 @@
-use Rattle.std.proofs.Common.{◌≡◌, suc, Some, List, length, map, sym, ap, ◌∙◌, arith, ◌++◌}
+use Rattle.std.proofs.Common.{suc, Some, List, map, sym, ap, ◌∙◌, arith, ◌++◌}
 use Rattle.peg_grammar.specs.GrammarRules.{rules_in}
 use Rattle.peg_grammar.specs.Written.{form_of}
 use Rattle.peg_lint.specs.Known.{known_in, known_of}

@@ -1,8 +1,5 @@
-use Rattle.std.proofs.Common.{◌≡◌, List, length, map, sym, ap, ◌∙◌, arith, ◌++◌}
-use Rattle.std.proofs.lemmas.List.{length-map}
+use Rattle.std.proofs.Common.{List, map, ap, arith, ◌++◌}
 use Rattle.peg_grammar.specs.GrammarRules.{rules_in}
-use Rattle.peg_semantics.specs.Rules.{Rule}
-use Rattle.peg_lint.specs.Edges.{edges_in}
 use Rattle.peg_lint.specs.Known.{known_in, known_of}
 use Rattle.peg_lint.specs.declared.edges.Edges as code
 use Rattle.peg_lint.proofs.EdgeTableLemmas.{SoFar-all, SoFar-more, known-start, length-known_in}

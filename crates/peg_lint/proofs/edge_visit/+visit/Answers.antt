@@ -1,4 +1,4 @@
-use Rattle.std.proofs.Common.{◌≡◌, ◌+◌, ◌<◌, ℕ, List, length, map, ap, sym, ◌∙◌, subst, arith, Contains}
+use Rattle.std.proofs.Common.{◌≡◌, ◌<◌, List, length, map, ap, ◌∙◌, subst, arith, Contains}
 use Rattle.std.proofs.lemmas.Result.{on_ok_weaker}
 use Rattle.peg_bytes.specs.Extent.{extent}
 use Rattle.peg_grammar.proofs.WrittenForms.{form_of-Seq, form_of-Choice}

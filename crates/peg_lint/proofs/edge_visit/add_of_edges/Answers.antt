@@ -1,4 +1,4 @@
-use Rattle.std.proofs.Common.{◌≡◌, List, map, ap, sym, ◌∙◌, subst}
+use Rattle.std.proofs.Common.{List, map, ap, sym, ◌∙◌, subst}
 use Rattle.std.proofs.lemmas.Result.{on_ok_weaker}
 use Rattle.peg_bytes.specs.Extent.{extent}
 use Rattle.peg_grammar.proofs.WrittenForms.{form_of-Seq, form_of-Choice}
@@ -7,7 +7,6 @@ use Rattle.peg_grammar.specs.Written.{form_of}
 use Rattle.peg_grammar.specs.declared.expr.Expr.{Expr}
 use Rattle.peg_semantics.specs.Form as form
 use Rattle.peg_semantics.specs.Form.{forms}
-use Rattle.peg_lint.proofs.FileLemmas.{KeepsTrue-same}
 use Rattle.peg_lint.specs.Warnings.{IsPartOfRule}
 use Rattle.peg_lint.proofs.edge_visit.add_of_edges.Goals as goal
 

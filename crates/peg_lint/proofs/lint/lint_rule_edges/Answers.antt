@@ -1,8 +1,7 @@
-use Rattle.std.proofs.Common.{◌≡◌, ap, sym, ◌∙◌, subst, List}
+use Rattle.std.proofs.Common.{sym, subst}
 use Rattle.peg_grammar.specs.GrammarRules.{rules_in}
 use Rattle.peg_grammar.specs.Written.{form_of}
 use Rattle.peg_lint.specs.Known.{AreKnown}
-use Rattle.peg_lint.specs.declared.edges.Edges as code
 use Rattle.peg_lint.proofs.EdgeTableLemmas.{length-known}
 use Rattle.peg_lint.proofs.FileLemmas.{KeepsTrue-both, KeepsTrue-same}
 use Rattle.peg_lint.proofs.PartLemmas.{body-parts}

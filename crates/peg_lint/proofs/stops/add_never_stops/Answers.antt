@@ -1,4 +1,4 @@
-use Rattle.std.proofs.Common.{◌≡◌, ℕ, ◌+◌, ◌-◌, ◌<◌, List, Option, map, length, get_or, Some, refl, sym, ap, ◌∙◌, subst, arith}
+use Rattle.std.proofs.Common.{◌≡◌, ℕ, ◌+◌, ◌-◌, ◌<◌, List, map, length, get_or, Some, sym, ap, ◌∙◌, subst, arith}
 use Rattle.peg_bytes.specs.Extent.{Extent, extent}
 use Rattle.peg_grammar.specs.GrammarRules.{rules_in}
 use Rattle.peg_grammar.specs.Written.{form_of}
@@ -12,7 +12,6 @@ use Rattle.peg_lint.specs.Linting.{KeepsTrue}
 use Rattle.peg_lint.specs.Warnings.{FollowsIn, IsPartOfRule, Says, extent_of}
 use Rattle.peg_lint.specs.declared.warning.Warning.{Warning}
 use Rattle.peg_lint.specs.declared.warning.WarningKind.{WarningKind}
-use Rattle.peg_lint.specs.declared.warning.WarningKind.TheVariants as kind
 use Rattle.peg_lint.proofs.stops.add_never_stops.Goals as goal
 
 -- a warning about an item and the item before it is true

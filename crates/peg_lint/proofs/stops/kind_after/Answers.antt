@@ -1,7 +1,7 @@
-use Rattle.std.proofs.Common.{◌≡◌, suc, false}
+use Rattle.std.proofs.Common.{suc}
 use Rattle.peg_grammar.specs.GrammarRules.{rules_in}
 use Rattle.peg_grammar.specs.Written.{form_of}
-use Rattle.peg_lint.specs.Known.{SaysAfter, follows, known_of, stops, takes_none}
+use Rattle.peg_lint.specs.Known.{follows, known_of, stops, takes_none}
 use Rattle.peg_lint.proofs.AfterLemmas.{fails-after-by, takes-none-by}
 use Rattle.peg_lint.proofs.StopLemmas.{fails-after}
 use Rattle.peg_lint.proofs.stops.kind_after.Goals as goal

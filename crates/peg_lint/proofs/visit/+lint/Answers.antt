@@ -19,7 +19,6 @@ use Rattle.peg_semantics.specs.RuleOutcomes.{IsAbstractOutcome}
 use Rattle.peg_semantics.specs.WellFormed.{below, subexpressions}
 use Rattle.peg_lint.specs.Linting.{Adds, FindsBelow, FindsExcluded, FindsOfAll, FindsUntried}
 use Rattle.peg_lint.specs.Outcomes.{AreOutcomes, outcome_of_all, outcome_of_any}
-use Rattle.peg_lint.specs.Warnings.{IsPartOfRule}
 use Rattle.peg_lint.proofs.OutcomeLemmas.{of-Any, of-Choice, of-Class, of-Seq}
 use Rattle.peg_lint.proofs.PartLemmas.{AreOutcomes-all, AreOutcomes-more, choice-with, first-is, form_of-Any, form_of-Class}
 use Rattle.peg_lint.proofs.PartLemmas.{first-placed, form_of-Literal, is_on, item-among, item-parts, items-are, items-placed}
