@@ -117,3 +117,13 @@ Names are followed through 16 rules, so the 17th isn't looked at. R1 is the firs
   1
   0
   [1]
+
+A grammar that nests more than 100 deep isn't looked at. The literals are in a choice, and it is in 98 predicates or 99.
+
+  $ for n in 98 99; do
+  >   { printf 'S <- '; printf '!(%.0s' $(seq $n); printf "'a' / 'ab'"; printf ')%.0s' $(seq $n); } |
+  >     pegtool lint /dev/stdin | grep -c '"kind":"Shadowed"'
+  > done
+  1
+  0
+  [1]
