@@ -32,9 +32,9 @@ use std::alloc::{AllocError, Global};
 /// No two warnings are equal. They are sorted by the start of their spans, those with the same start by kind, and those
 /// of the same kind by the end of their spans.
 ///
-/// Takes memory linear in the grammar. Takes time linear in the grammar, apart from hashing and sorting, and from the
-/// digests of alternatives, which read an expression once for each choice around it. The only error is a failed
-/// allocation.
+/// Takes memory linear in the grammar. Takes time linear in the grammar, apart from hashing and sorting. An expression is
+/// also read once for each choice and sequence around it, for the digests of alternatives and for what it begins with.
+/// The only error is a failed allocation.
 ///
 /// # Example
 ///
