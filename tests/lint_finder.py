@@ -13,12 +13,16 @@ from reference import FAILS, NOTHING, SPACING, Expr, Grammar, Reader, expression
 
 # The kinds in the order of the two tables of LINT.md.
 PROVED = ("UnusedRule", "NeverMatches", "NeverTried", "AlwaysFails", "NoEffect", "SameAlternative", "Shadowed",
-          "NeverStops", "ReversedRange")
+          "NeverStops", "NeverFollows", "TakesNothing", "ReversedRange")
 HABITS = ("EmptyAlternative", "AnyAtEnd", "ClassBeginsWithCaret", "ClassEndsInRange", "RangeOverSigns", "HoldsLineEnd",
           "HighBytesInClass", "BlanksInClass", "RepeatedByte")
 KINDS = PROVED + HABITS
 MAY_BE_MISSED = frozenset({"SameAlternative", "Shadowed", "NeverStops"})
 PREDICATES = ("and", "not")
+ROUNDS = 16  # rules that names are followed through
+MOST_DEPTH = 100  # of expressions in a grammar with warnings about what follows
+NO_BYTES: frozenset[int] = frozenset()
+ALL_BYTES = frozenset(range(256))
 
 
 @dataclasses.dataclass(frozen=True)
@@ -36,6 +40,87 @@ def part_of(kind: str, expr: Expr, by: Expr | None = None) -> Part:
     return Part(kind, expr.start, expr.end, (by.start, by.end) if by else None)
 
 
+@dataclasses.dataclass(frozen=True)
+class Edges:
+    """An estimate of an expression. What it may do: match the empty string, match a byte or more, fail. The bytes that
+    it may begin with, or None for any. Bytes before which it doesn't fail, and bytes that aren't next where it ends."""
+
+    empty: bool
+    consumes: bool
+    fails: bool
+    begins: frozenset[int] | None
+    takes: frozenset[int]
+    stops: frozenset[int]
+
+
+UNKNOWN = Edges(True, True, True, None, NO_BYTES, NO_BYTES)
+EMPTY = Edges(True, False, False, NO_BYTES, ALL_BYTES, NO_BYTES)
+DOT = Edges(False, True, True, None, ALL_BYTES, NO_BYTES)
+
+
+def either(one: frozenset[int] | None, other: frozenset[int] | None) -> frozenset[int] | None:
+    """The bytes of both, where None is any."""
+    return None if one is None or other is None else one | other
+
+
+def in_sequence(first: Edges, rest: Edges) -> Edges:
+    """The estimate of two expressions one after the other."""
+    return Edges(first.empty and rest.empty, first.consumes or rest.consumes, first.fails or rest.fails,
+                 either(first.begins, rest.begins) if first.empty else first.begins,
+                 NO_BYTES if rest.fails else first.takes,
+                 rest.stops if rest.consumes else rest.stops | first.stops)
+
+
+def in_choice(first: Edges, rest: Edges) -> Edges:
+    """The estimate of a choice of two expressions."""
+    return Edges(first.empty or rest.empty, first.consumes or rest.consumes, first.fails and rest.fails,
+                 either(first.begins, rest.begins), first.takes | rest.takes, NO_BYTES)
+
+
+def of_operator(expr: Expr, part: Edges) -> Edges:
+    """The estimate of an operator."""
+    change = functools.partial(dataclasses.replace, part)
+    match expr.kind:
+        case "optional":
+            return change(empty=True, fails=False, takes=ALL_BYTES, stops=NO_BYTES)
+        case "star":
+            return change(empty=True, fails=False, takes=ALL_BYTES, stops=part.takes)
+        case "plus":
+            return change(stops=part.takes)
+        case "and":
+            return change(empty=True, consumes=False, begins=NO_BYTES, stops=NO_BYTES)
+        case "not":
+            return Edges(part.fails, False, True, NO_BYTES, NO_BYTES, part.takes)
+    return change(empty=part.empty or expr.value[0] == 0, takes=NO_BYTES, stops=NO_BYTES)
+
+
+def estimate(expr: Expr, rules: dict[str, Edges]) -> Edges:
+    """The estimate of an expression, from those of the rules' expressions."""
+    parts = [estimate(part, rules) for part in expr.parts]
+    match expr.kind:
+        case "literal" if not expr.value:
+            return EMPTY
+        case "literal":
+            first = frozenset(expr.value[:1])
+            return Edges(False, True, True, first, first if len(expr.value) == 1 else NO_BYTES, NO_BYTES)
+        case "class":
+            return Edges(False, True, True, frozenset(expr.value), frozenset(expr.value), NO_BYTES)
+        case "any":
+            return DOT
+        case "name":
+            return rules[expr.value]
+        case "sequence":
+            return functools.reduce(lambda rest, first: in_sequence(first, rest), reversed(parts), EMPTY)
+        case "choice":
+            return functools.reduce(in_choice, parts)
+    return of_operator(expr, parts[0])
+
+
+def depth_of(expr: Expr) -> int:
+    """How many expressions there are one in another, with this one."""
+    return 1 + max(map(depth_of, expr.parts), default=0)
+
+
 class Finder:
     """Finds the warnings about a grammar file that the tool accepts. Raises Refused if there is no grammar in it."""
 
@@ -46,6 +131,7 @@ class Finder:
         self.grammar = Grammar(file)
         self.outcomes = functools.lru_cache(None)(self.grammar.outcomes_of)
         self.reached = self.reached_from(start or self.definitions[0][0].value)
+        self.edges = self.estimates()
 
     def warnings(self) -> list[dict[str, object]]:
         """The warnings with the members that `pegtool lint` prints, in its order."""
@@ -72,6 +158,8 @@ class Finder:
                 yield from empty_alternatives(expr)
             elif expr.kind in ("literal", "class"):
                 yield from self.in_text(expr)
+            elif expr.kind == "sequence":
+                yield from self.after_another(expr)
             else:
                 yield from self.operator(expr)
 
@@ -113,6 +201,25 @@ class Finder:
             part = self.outcomes(expr.parts[0])
             if FAILS not in part or part == {FAILS}:
                 yield part_of("NoEffect", expr)
+
+    def estimates(self) -> dict[str, Edges] | None:
+        """The estimate of each rule's expression, or None if the expressions nest too deep."""
+        if any(depth_of(body) > MOST_DEPTH for _, body in self.definitions):
+            return None
+        rules = {name.value: UNKNOWN for name, _ in self.definitions}
+        for _ in range(ROUNDS):
+            rules = {name.value: estimate(body, rules) for name, body in self.definitions}
+        return rules
+
+    def after_another(self, sequence: Expr):
+        """NeverFollows and TakesNothing: an item that may only begin with bytes that can't follow the one before it."""
+        for before, item in zip(sequence.parts, sequence.parts[1:]) if self.edges else ():
+            one, other = estimate(before, self.edges), estimate(item, self.edges)
+            if (one.empty or one.consumes) and other.begins and other.begins <= one.stops:
+                if other.empty:
+                    yield part_of("TakesNothing", item, before)
+                elif before.kind not in ("star", "plus"):
+                    yield part_of("NeverFollows", item, before)
 
     def in_text(self, expr: Expr):
         """The kinds that depend on the bytes of a literal or a class."""

@@ -3,8 +3,10 @@ Python package and the library that `make lib` builds.
 
 A part with a warning is replaced by what the warning says of it, and no parse may change: an alternative that is never
 tried or never taken, an item that stops its sequence, a part that never matches and a predicate that always fails by
-`[]`, an operator without effect by `''` or its part, a reversed range by nothing. An unused rule has no node."""
+`[]`, an item that takes nothing by an and-predicate, an operator without effect by `''` or its part, a reversed range
+by nothing. An unused rule has no node."""
 import pathlib
+import re
 import sys
 
 sys.path.insert(0, str(pathlib.Path(__file__).resolve().parent.parent / "python"))
@@ -14,7 +16,7 @@ from lint_finder import PROVED  # noqa: E402
 
 BYTES = b"aaaaabbbbbccccc^ \n]\xc3\xa9"
 TEXTS = 200
-FAILING = {"NeverMatches", "NeverTried", "AlwaysFails", "SameAlternative", "Shadowed", "NeverStops"}
+FAILING = {"NeverMatches", "NeverTried", "AlwaysFails", "SameAlternative", "Shadowed", "NeverStops", "NeverFollows"}
 
 
 def parser(grammar):
@@ -46,6 +48,9 @@ def replacements(grammar, warning):
     elif warning["kind"] == "ReversedRange":
         # Without the range, a dash after it would make a range with the byte before it.
         others = [b""] if grammar[end : end + 1] != b"-" else []
+    elif warning["kind"] == "TakesNothing":
+        # A call has a node even if it matches no byte.
+        others = [b"&(" + part_text + b")"] if not re.search(rb"[A-Z]", part_text) else []
     elif warning["kind"] == "NoEffect":
         others = [b"''", part_text[:-1]] if part_text.endswith(b"?") else [b"''"]
     return [grammar[:start] + other + grammar[end:] for other in others]

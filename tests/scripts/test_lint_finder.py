@@ -60,6 +60,15 @@ class Kinds(unittest.TestCase):
         self.assertEqual(found(b"S <- [0-9,a-f,A-F]"), [("RepeatedByte", 13, 14)])
         self.assertEqual(found(rb"S <- [a-mm-z] [A\x41] [a-mn-z]"), [("RepeatedByte", 9, 12), ("RepeatedByte", 16, 20)])
 
+    def test_items_that_cannot_follow_the_one_before(self) -> None:
+        self.assertEqual(found(b"S <- 'x' !. 'y'"), [("NeverFollows", 12, 15)])
+        self.assertEqual(found(b"S <- W 'x'\nW <- [a-z]+"), [("NeverFollows", 7, 10)])
+        self.assertEqual(found(b"S <- !'##' '#' / !'a' ."), [])
+
+    def test_items_that_take_nothing(self) -> None:
+        self.assertEqual(found(b"S <- 'a' ' '* ' '* 'b'"), [("TakesNothing", 14, 18)])
+        self.assertEqual(found(b"S <- ' '? ' '* 'x'? !."), [])
+
     def test_bytes_of_classes_and_literals(self) -> None:
         self.assertEqual(found(b"Text <- [^x]+\n"), [("ClassBeginsWithCaret", 8, 12)])
         self.assertEqual(found("S <- 'é' [é]".encode()), [("HighBytesInClass", 10, 14)])

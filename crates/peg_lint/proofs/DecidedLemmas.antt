@@ -52,6 +52,8 @@ module _ (rules : List Rule) (start : ℕ) (l0 l1 : List Warning) (all : FindsRu
   decided-found kind.SameAlternative number span by is = absurd is
   decided-found kind.Shadowed number span by is = absurd is
   decided-found kind.NeverStops number span by is = absurd is
+  decided-found kind.NeverFollows number span by is = absurd is
+  decided-found kind.TakesNothing number span by is = absurd is
   decided-found kind.ReversedRange number span by is = absurd is
   decided-found kind.EmptyAlternative number span by is = absurd is
   decided-found kind.AnyAtEnd number span by is = absurd is

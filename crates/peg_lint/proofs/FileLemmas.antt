@@ -113,6 +113,9 @@ module _ (rules : List Rule) where
   KeepsTrue-both a b c first second =
       Adds-then (λ found. Unit {0}) (λ found. Unit {0}) (λ found. Unit {0}) a b c first second (λ keeps one two. tt)
 
+  pub KeepsTrue-same : (old : List Warning) → KeepsTrue rules old old
+  KeepsTrue-same old = Adds-same (λ found. Unit {0}) old tt
+
   pub KeepsTrue-push : (old : List Warning) (w : Warning) → ((start : ℕ) → IsTrueWarning rules start w)
       → KeepsTrue rules old (old ++ w ∷ [])
   KeepsTrue-push old w is = Adds-push (λ found. Unit {0}) old w is tt

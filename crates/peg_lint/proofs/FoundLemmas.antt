@@ -79,6 +79,8 @@ module _ (file : List ℕ) (rules : List Rule) (found : List Warning) (all : Fin
   says-found kind.SameAlternative number span is = absurd is
   says-found kind.Shadowed number span is = absurd is
   says-found kind.NeverStops number span is = absurd is
+  says-found kind.NeverFollows number span is = absurd is
+  says-found kind.TakesNothing number span is = absurd is
   says-found kind.ReversedRange number span is =
       ((text-of number (Class is.0 is.1) is.2).class is.0 is.1 refl is.3).1.reversed span is.4
   says-found kind.EmptyAlternative number span is = (text-of number is.0 is.2).empty span is.1 is.3
@@ -118,6 +120,8 @@ decided-reported selection.Proved rules start kind.NoEffect number span by is = 
 decided-reported selection.Proved rules start kind.SameAlternative number span by is = absurd is
 decided-reported selection.Proved rules start kind.Shadowed number span by is = absurd is
 decided-reported selection.Proved rules start kind.NeverStops number span by is = absurd is
+decided-reported selection.Proved rules start kind.NeverFollows number span by is = absurd is
+decided-reported selection.Proved rules start kind.TakesNothing number span by is = absurd is
 decided-reported selection.Proved rules start kind.ReversedRange number span by is = absurd is
 decided-reported selection.Proved rules start kind.EmptyAlternative number span by is = absurd is
 decided-reported selection.Proved rules start kind.AnyAtEnd number span by is = absurd is

@@ -1,7 +1,11 @@
+mod AfterLemmas
 mod CallLemmas
 mod ChoiceLemmas
 mod DecidedLemmas
 mod DotLemmas
+mod EdgeLemmas
+mod EdgeRecords
+mod EdgeTableLemmas
 mod EffectLemmas
 mod FileLemmas
 mod FoundLemmas

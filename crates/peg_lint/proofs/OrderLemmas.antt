@@ -30,12 +30,13 @@ abbrev kind_at : ℕ → WarningKind
 kind_at n =
     cond (nat_eq n 0) kind.UnusedRule (cond (nat_eq n 1) kind.NeverMatches (cond (nat_eq n 2) kind.NeverTried
     (cond (nat_eq n 3) kind.AlwaysFails (cond (nat_eq n 4) kind.NoEffect (cond (nat_eq n 5) kind.SameAlternative
-    (cond (nat_eq n 6) kind.Shadowed (cond (nat_eq n 7) kind.NeverStops (cond (nat_eq n 8) kind.ReversedRange
-    (cond (nat_eq n 9) kind.EmptyAlternative (cond (nat_eq n 10) kind.AnyAtEnd
-    (cond (nat_eq n 11) kind.ClassBeginsWithCaret (cond (nat_eq n 12) kind.ClassEndsInRange
-    (cond (nat_eq n 13) kind.RangeOverSigns (cond (nat_eq n 14) kind.HoldsLineEnd
-    (cond (nat_eq n 15) kind.HighBytesInClass
-    (cond (nat_eq n 16) kind.BlanksInClass kind.RepeatedByte))))))))))))))))
+    (cond (nat_eq n 6) kind.Shadowed (cond (nat_eq n 7) kind.NeverStops (cond (nat_eq n 8) kind.NeverFollows
+    (cond (nat_eq n 9) kind.TakesNothing (cond (nat_eq n 10) kind.ReversedRange
+    (cond (nat_eq n 11) kind.EmptyAlternative (cond (nat_eq n 12) kind.AnyAtEnd
+    (cond (nat_eq n 13) kind.ClassBeginsWithCaret (cond (nat_eq n 14) kind.ClassEndsInRange
+    (cond (nat_eq n 15) kind.RangeOverSigns (cond (nat_eq n 16) kind.HoldsLineEnd
+    (cond (nat_eq n 17) kind.HighBytesInClass
+    (cond (nat_eq n 18) kind.BlanksInClass kind.RepeatedByte))))))))))))))))))
 
 kind_at-rank : (what : WarningKind) → kind_at (rank_of what) ≡ what
 kind_at-rank kind.UnusedRule = refl
@@ -46,6 +47,8 @@ kind_at-rank kind.NoEffect = refl
 kind_at-rank kind.SameAlternative = refl
 kind_at-rank kind.Shadowed = refl
 kind_at-rank kind.NeverStops = refl
+kind_at-rank kind.NeverFollows = refl
+kind_at-rank kind.TakesNothing = refl
 kind_at-rank kind.ReversedRange = refl
 kind_at-rank kind.EmptyAlternative = refl
 kind_at-rank kind.AnyAtEnd = refl

@@ -1,20 +1,16 @@
--- A sequence in which a star or a plus is followed by an item that fails wherever its part fails never matches.
-use Rattle.std.proofs.Common.{◌≡◌, inl, inr, ℕ, zero, suc, ◌+◌, ◌<◌, List, [], ◌∷◌, length, map, get_or, Some, refl, sym, ap, ◌∙◌, subst, arith}
+-- An item after a star or a plus fails wherever the repetition ends, if it fails wherever the repeated part fails.
+use Rattle.std.proofs.Common.{◌≡◌, inl, inr, ℕ, zero, suc, ◌+◌, ◌<◌, List, [], ◌∷◌, length, map, get_or, Some, sym, ap, ◌∙◌, subst, arith}
 use Rattle.peg_bytes.specs.Extent.{Extent}
 use Rattle.peg_grammar.specs.Written.{form_of}
 use Rattle.peg_grammar.specs.declared.expr.Expr.{Expr}
 use Rattle.peg_tree.specs.Trees.{Trees}
-use Rattle.peg_semantics.specs.Form.{Form, Forms, Literal, Class, Any, Name, Seq, Choice, Optional, Star, Plus, Counted, And, Not}
-use Rattle.peg_semantics.specs.Form.{End, Then, forms, terminals}
-use Rattle.peg_semantics.specs.Record.{Recognition, Failed, Matched, Record, IsRecord, prepend_trees, recognize_seq, record_in}
+use Rattle.peg_semantics.specs.Form.{Form, Literal, Class, Any, Name, Seq, Choice, Optional, Star, Plus, Counted, And, Not}
+use Rattle.peg_semantics.specs.Form.{forms}
+use Rattle.peg_semantics.specs.Record.{Recognition, Failed, Matched, Record, IsRecord, prepend_trees, record_in}
 use Rattle.peg_semantics.specs.Rules.{Rule}
 use Rattle.peg_semantics.proofs.ResultSteps.{rounds_cases, then_cases}
 use Rattle.peg_lint.specs.Warnings.{FollowsIn, IsRepeatOf}
-use Rattle.peg_lint.specs.Never.{FailsAfter, FailsWhere, NeverMatches}
-
--- no result is both a failure and a match
-not_both : (x : Recognition) (end : ℕ) (trees : Trees) → x ≡ Failed → x ≡ Matched end trees → ⊥
-not_both x end trees failed matched = let bad : Failed ≡ Matched end trees = sym failed ∙ matched in cc
+use Rattle.peg_lint.specs.Never.{FailsAfter, FailsWhere}
 
 module _ (rules : List Rule) (text : List ℕ) where
   -- the expression fails at a position
@@ -73,50 +69,6 @@ module _ (rules : List Rule) (text : List ℕ) where
   repeat-ends n (Counted e min max span) part terminal position r is at = absurd is
   repeat-ends n (And e span) part terminal position r is at = absurd is
   repeat-ends n (Not e span) part terminal position r is at = absurd is
-
-  -- the item after a repetition fails at its end
-  next-fails : (n : ℕ) (repeat next part : Form) (others : Forms) (terminal position : ℕ) (r : Record)
-      → IsRepeatOf repeat part → FailsWhere rules part next
-      → recognize_seq (record_in rules text n) (Then repeat (Then next others)) terminal position ≡ Some r
-      → r.result ≡ Failed
-  next-fails n repeat next part others terminal position r is fails at =
-      then_cases (λ x. x ≡ Failed) (record_in rules text n repeat terminal position)
-      (λ end. recognize_seq (record_in rules text n) (Then next others) (terminal + terminals repeat) end) r
-      (λ one tried failed. refl)
-      (λ one more end trees tried matched found.
-      let stops = repeat-ends n repeat part terminal position one is tried end trees matched in
-      ap (prepend_trees trees)
-      (then_cases (λ x. x ≡ Failed) (record_in rules text n next (terminal + terminals repeat) end)
-      (λ at. recognize_seq (record_in rules text n) others (terminal + terminals repeat + terminals next) at) more
-      (λ two tested failed. refl)
-      (λ two later stop left tested hit then_found. absurd
-      (not_both two.result stop left
-      (fails text terminal (terminal + terminals repeat) end stops.0 two stops.1 (n, tested) stops.2) hit)) found)) at
-
-  stuck-seq : (n : ℕ) (items : Forms) (repeat next part : Form) (terminal position : ℕ) (r : Record)
-      → FollowsIn items repeat next → IsRepeatOf repeat part → FailsWhere rules part next
-      → recognize_seq (record_in rules text n) items terminal position ≡ Some r → r.result ≡ Failed
-  stuck-seq n End repeat next part terminal position r follows is fails at = absurd follows
-  stuck-seq n (Then first End) repeat next part terminal position r (inl here) is fails at = absurd here.1
-  stuck-seq n (Then first (Then other others)) repeat next part terminal position r (inl here) is fails at =
-      next-fails n first other part others terminal position r
-      (subst (λ (f : Form). IsRepeatOf f part) (sym here.0) is)
-      (subst (λ (f : Form). FailsWhere rules part f) (sym here.1) fails) at
-  stuck-seq n (Then first rest) repeat next part terminal position r (inr later) is fails at =
-      then_cases (λ x. x ≡ Failed) (record_in rules text n first terminal position)
-      (λ end. recognize_seq (record_in rules text n) rest (terminal + terminals first) end) r
-      (λ one tried failed. refl)
-      (λ one more end trees tried matched found. ap (prepend_trees trees)
-      (stuck-seq n rest repeat next part (terminal + terminals first) end more later is fails found)) at
-
--- the sequence never matches
-pub never-stops : (rules : List Rule) (items : Forms) (span : Extent) (repeat next part : Form)
-    → FollowsIn items repeat next → IsRepeatOf repeat part → FailsWhere rules part next
-    → NeverMatches rules (Seq items span)
-unfolding record_in
-never-stops rules items span repeat next part follows is fails text terminal position r (zero, at) = cc
-never-stops rules items span repeat next part follows is fails text terminal position r (suc n, at) =
-    stuck-seq rules text n items repeat next part terminal position r follows is fails at
 
 -- the item fails wherever the repetition ends
 pub fails-after : (rules : List Rule) (repeat next part : Form) → IsRepeatOf repeat part → FailsWhere rules part next

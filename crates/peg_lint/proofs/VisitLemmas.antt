@@ -124,13 +124,11 @@ module _ (rules : List Rule) (number : ℕ) where
   pub Adds-leaf : (e : Form) (old : List Warning) → IsLeaf e → Adds rules (FindsOfAll rules number (subexpressions e)) old old
   Adds-leaf e old is = Adds-same rules (FindsOfAll rules number (subexpressions e)) old (FindsOfAll-leaf rules number old e is)
 
-  pub Adds-seq : (items : Forms) (span : Extent) (l0 l1 l2 : List Warning) → Adds rules (FindsBelow rules number items) l0 l1
-      → KeepsTrue rules l1 l2 → Adds rules (FindsOfAll rules number (subexpressions (Seq items span))) l0 l2
-  Adds-seq items span l0 l1 l2 one two =
-      Adds-weaker rules (FindsBelow rules number items) (FindsOfAll rules number (subexpressions (Seq items span))) l0 l2
-      (λ finds. FindsOfAll-seq rules number l2 items span finds)
-      (KeepsTrue-then rules (FindsBelow rules number items) l0 l1 l2 one two
-      (λ keeps finds. FindsBelow-later rules number items l1 l2 keeps finds))
+  pub Adds-seq : (items : Forms) (span : Extent) (l0 l1 : List Warning) → Adds rules (FindsBelow rules number items) l0 l1
+      → Adds rules (FindsOfAll rules number (subexpressions (Seq items span))) l0 l1
+  Adds-seq items span l0 l1 one =
+      Adds-weaker rules (FindsBelow rules number items) (FindsOfAll rules number (subexpressions (Seq items span))) l0 l1
+      (λ finds. FindsOfAll-seq rules number l1 items span finds) one
 
   pub Adds-operator : (e part : Form) (l0 l1 l2 : List Warning) → IsOperatorOn e part → below e ≡ subexpressions part
       → Adds rules (FindsOfAll rules number (subexpressions part)) l0 l1 → Adds rules (FindsOperator rules number e) l1 l2
@@ -157,12 +155,12 @@ module _ (rules : List Rule) (number : ℕ) where
       FindsBelow-later rules number rest one two keeps both.1,
     )
 
-    pub Adds-choice : (l0 l1 l2 l3 l4 l5 l6 : List Warning) → Adds rules (FindsOfAll rules number (subexpressions first)) l0 l1
+    pub Adds-choice : (l0 l1 l2 l3 l4 l5 : List Warning) → Adds rules (FindsOfAll rules number (subexpressions first)) l0 l1
         → Adds rules (FindsExcluded rules number first) l1 l2 → Adds rules (FindsBelow rules number rest) l2 l3
-        → KeepsTrue rules l3 l4 → KeepsTrue rules l4 l5
-        → Adds rules (FindsUntried rules number (Choice first rest span)) l5 l6
-        → Adds rules (FindsOfAll rules number (subexpressions (Choice first rest span))) l0 l6
-    Adds-choice l0 l1 l2 l3 l4 l5 l6 one two three four five six =
+        → KeepsTrue rules l3 l4
+        → Adds rules (FindsUntried rules number (Choice first rest span)) l4 l5
+        → Adds rules (FindsOfAll rules number (subexpressions (Choice first rest span))) l0 l5
+    Adds-choice l0 l1 l2 l3 l4 l5 one two three four five =
         let a : Adds rules First l0 l2 =
         Adds-then rules (FindsOfAll rules number (subexpressions first)) (FindsExcluded rules number first) First l0 l1 l2
         one two (λ keeps x y. (FindsOfAll-later l1 l2 keeps rules number (subexpressions first) x, y)) in
@@ -176,11 +174,10 @@ module _ (rules : List Rule) (number : ℕ) where
           y,
         )) in
         let d = KeepsTrue-then rules Both l0 l3 l4 b four (λ keeps x. Both-later l3 l4 keeps x) in
-        let e = KeepsTrue-then rules Both l0 l4 l5 d five (λ keeps x. Both-later l4 l5 keeps x) in
         Adds-then rules Both (FindsUntried rules number (Choice first rest span))
-        (FindsOfAll rules number (subexpressions (Choice first rest span))) l0 l5 l6 e six
-        (λ keeps x y. let z = Both-later l5 l6 keeps x in
-        FindsOfAll-choice rules number l6 first rest span z.0.0 z.0.1 z.1 y)
+        (FindsOfAll rules number (subexpressions (Choice first rest span))) l0 l4 l5 d five
+        (λ keeps x y. let z = Both-later l4 l5 keeps x in
+        FindsOfAll-choice rules number l5 first rest span z.0.0 z.0.1 z.1 y)
 
   -- ---- items in a loop
 

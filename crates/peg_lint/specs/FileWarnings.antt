@@ -110,6 +110,8 @@ SaysOfFile kind.NoEffect file rules number span = ⊥
 SaysOfFile kind.SameAlternative file rules number span = ⊥
 SaysOfFile kind.Shadowed file rules number span = ⊥
 SaysOfFile kind.NeverStops file rules number span = ⊥
+SaysOfFile kind.NeverFollows file rules number span = ⊥
+SaysOfFile kind.TakesNothing file rules number span = ⊥
 SaysOfFile kind.ReversedRange file rules number span =
     IsClassWith file rules number (λ class. IsReversedRange file class span)
 SaysOfFile kind.EmptyAlternative file rules number span = IsEmptyAlternative rules number span
@@ -144,6 +146,8 @@ is_proved kind.NoEffect = true
 is_proved kind.SameAlternative = true
 is_proved kind.Shadowed = true
 is_proved kind.NeverStops = true
+is_proved kind.NeverFollows = true
+is_proved kind.TakesNothing = true
 is_proved kind.ReversedRange = true
 is_proved kind.EmptyAlternative = false
 is_proved kind.AnyAtEnd = false

@@ -21,6 +21,8 @@ pub mod Warnings
 pub mod Linting
 pub mod Reaching
 pub mod WithoutExtents
+pub mod Edges
+pub mod Known
 pub mod Spelling
 pub mod Habits
 pub mod FileWarnings

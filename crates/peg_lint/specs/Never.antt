@@ -41,3 +41,9 @@ abbrev pub FailsAfter : List Rule → Form → Form → Type 0
 FailsAfter rules e other = (text : List ℕ) (terminal number position end : ℕ) (trees : Trees) (r s : Record)
     → IsRecord rules text e terminal position r → r.result ≡ Matched end trees
     → IsRecord rules text other number end s → s.result ≡ Failed
+
+-- wherever a match of the first expression ends, a match of the second ends, too
+abbrev pub MatchesNoByteAfter : List Rule → Form → Form → Type 0
+MatchesNoByteAfter rules e other = (text : List ℕ) (terminal number position end stop : ℕ) (trees more : Trees)
+    (r s : Record) → IsRecord rules text e terminal position r → r.result ≡ Matched end trees
+    → IsRecord rules text other number end s → s.result ≡ Matched stop more → stop ≡ end

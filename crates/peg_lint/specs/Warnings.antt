@@ -12,7 +12,7 @@ use Rattle.peg_semantics.specs.Rules.{Rule, name_of}
 use Rattle.peg_semantics.specs.WellFormed.{subexpressions}
 use Rattle.peg_lint.specs.Excluded.{CannotFail, CannotMatch}
 use Rattle.peg_lint.specs.Never.{NeverFails, NeverMatches, MatchesNothing, HasRecordsOf}
-use Rattle.peg_lint.specs.Never.{FailsAfter, FailsWhere, HaveSameResults}
+use Rattle.peg_lint.specs.Never.{FailsAfter, FailsWhere, HaveSameResults, MatchesNoByteAfter}
 use Rattle.peg_lint.specs.Reaches.{Reaches}
 use Rattle.peg_lint.specs.declared.warning.Warning.{Warning}
 use Rattle.peg_lint.specs.declared.warning.WarningKind.{WarningKind}
@@ -180,6 +180,49 @@ pub record IsNeverStopping (rules : List Rule) (number : ℕ) (span : Extent) (b
   pub fails : FailsAfter rules repeat next
   pub never : NeverMatches rules (Seq items whole)
 
+-- an expression is a star or a plus
+abbrev pub IsRepeat : Form → Type 0
+IsRepeat (Literal bytes span) = ⊥
+IsRepeat (Class set span) = ⊥
+IsRepeat (Any span) = ⊥
+IsRepeat (Name name span) = ⊥
+IsRepeat (Seq items span) = ⊥
+IsRepeat (Choice first rest span) = ⊥
+IsRepeat (Optional part span) = ⊥
+IsRepeat (Star part span) = Unit {0}
+IsRepeat (Plus part span) = Unit {0}
+IsRepeat (Counted part min max span) = ⊥
+IsRepeat (And part span) = ⊥
+IsRepeat (Not part span) = ⊥
+
+-- A sequence that never matches, since an item fails wherever the item before it ends, which is no star and no plus. The
+-- extents are those of the two items, the later one first.
+pub record IsNeverFollowing (rules : List Rule) (number : ℕ) (span : Extent) (by : Option Extent) : Type 0 where
+  pub items : Forms
+  pub whole : Extent
+  pub earlier : Form
+  pub next : Form
+  pub in_rule : IsPartOfRule rules number (Seq items whole)
+  pub follows : FollowsIn items earlier next
+  pub no_repeat : ¬ IsRepeat earlier
+  pub span_is : extent_of next ≡ span
+  pub by_is : Some (extent_of earlier) ≡ by
+  pub fails : FailsAfter rules earlier next
+  pub never : NeverMatches rules (Seq items whole)
+
+-- An item of a sequence that matches no byte wherever the item before it ends. The extents are those of the two items,
+-- the later one first.
+pub record IsTakingNothing (rules : List Rule) (number : ℕ) (span : Extent) (by : Option Extent) : Type 0 where
+  pub items : Forms
+  pub whole : Extent
+  pub earlier : Form
+  pub next : Form
+  pub in_rule : IsPartOfRule rules number (Seq items whole)
+  pub follows : FollowsIn items earlier next
+  pub span_is : extent_of next ≡ span
+  pub by_is : Some (extent_of earlier) ≡ by
+  pub takes_none : MatchesNoByteAfter rules earlier next
+
 -- an expression is an item of a sequence, or an alternative of a choice
 abbrev pub IsItemOf : Form → (item : Form) → Type 0
 IsItemOf (Literal bytes span) item = ⊥
@@ -296,6 +339,8 @@ Decides kind.NoEffect rules start number span by = IsPartWith rules number span 
 Decides kind.SameAlternative rules start number span by = ⊥
 Decides kind.Shadowed rules start number span by = ⊥
 Decides kind.NeverStops rules start number span by = ⊥
+Decides kind.NeverFollows rules start number span by = ⊥
+Decides kind.TakesNothing rules start number span by = ⊥
 Decides kind.ReversedRange rules start number span by = ⊥
 Decides kind.EmptyAlternative rules start number span by = ⊥
 Decides kind.AnyAtEnd rules start number span by = ⊥
@@ -324,6 +369,8 @@ Says kind.NoEffect rules start number span by =
 Says kind.SameAlternative rules start number span by = IsSameAlternative rules number span by
 Says kind.Shadowed rules start number span by = IsShadowed rules number span by
 Says kind.NeverStops rules start number span by = IsNeverStopping rules number span by
+Says kind.NeverFollows rules start number span by = IsNeverFollowing rules number span by
+Says kind.TakesNothing rules start number span by = IsTakingNothing rules number span by
 Says kind.ReversedRange rules start number span by = ⊥
 Says kind.EmptyAlternative rules start number span by = ⊥
 Says kind.AnyAtEnd rules start number span by = ⊥
@@ -365,16 +412,18 @@ rank_of kind.NoEffect = 4
 rank_of kind.SameAlternative = 5
 rank_of kind.Shadowed = 6
 rank_of kind.NeverStops = 7
-rank_of kind.ReversedRange = 8
-rank_of kind.EmptyAlternative = 9
-rank_of kind.AnyAtEnd = 10
-rank_of kind.ClassBeginsWithCaret = 11
-rank_of kind.ClassEndsInRange = 12
-rank_of kind.RangeOverSigns = 13
-rank_of kind.HoldsLineEnd = 14
-rank_of kind.HighBytesInClass = 15
-rank_of kind.BlanksInClass = 16
-rank_of kind.RepeatedByte = 17
+rank_of kind.NeverFollows = 8
+rank_of kind.TakesNothing = 9
+rank_of kind.ReversedRange = 10
+rank_of kind.EmptyAlternative = 11
+rank_of kind.AnyAtEnd = 12
+rank_of kind.ClassBeginsWithCaret = 13
+rank_of kind.ClassEndsInRange = 14
+rank_of kind.RangeOverSigns = 15
+rank_of kind.HoldsLineEnd = 16
+rank_of kind.HighBytesInClass = 17
+rank_of kind.BlanksInClass = 18
+rank_of kind.RepeatedByte = 19
 
 -- Warnings in the order of the starts of their extents. Those with the same start are in the order of their kinds, and
 -- those of the same kind in the order of their ends.

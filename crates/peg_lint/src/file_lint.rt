@@ -50,7 +50,8 @@ fn lint_rule_texts(
 /// rule. The core forms are those of the grammar. Each warning is one of `warnings`, or true of the bytes of the file.
 /// With `Selection::Proved` there are no warnings about habits.
 ///
-/// No warning is missing of the kinds that are reported, but for `SameAlternative`, `Shadowed` and `NeverStops`.
+/// No warning is missing of the kinds that are reported, but for `SameAlternative`, `Shadowed`, `NeverStops`,
+/// `NeverFollows` and `TakesNothing`.
 ///
 /// No two warnings are equal. They are sorted by the start of their spans, those with the same start by kind, and those
 /// of the same kind by the end of their spans.

@@ -4,8 +4,12 @@
 
 mod alternatives;
 mod classes;
+mod depth;
 mod digest;
 mod dots;
+mod edge_table;
+mod edge_visit;
+mod edges;
 mod empty;
 mod expressions;
 mod file_lint;

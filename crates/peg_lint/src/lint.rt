@@ -5,9 +5,12 @@ ghost use Rattle.peg_check.specs.Exact.{cans_of};
 ghost use Rattle.peg_core.specs.CoreParts.{AreCoreFormsOf};
 ghost use Rattle.peg_grammar.specs.GrammarRules.{rules_in};
 ghost use Rattle.peg_semantics.specs.RuleOutcomes.{AreAbstractOutcomes};
-ghost use Rattle.peg_lint.specs.Linting.{Adds, FindsRule, FindsRules, FindsUnused, Keeps};
+ghost use Rattle.peg_lint.specs.Linting.{Adds, FindsRule, FindsRules, FindsUnused, Keeps, KeepsTrue};
 ghost use Rattle.peg_lint.specs.Warnings.{AreDistinct, FindsDecided, IsInWrittenOrder, IsTrueWarning};
 
+use crate::depth::has_shallow_rules;
+use crate::edge_table::edge_table;
+use crate::edge_visit::lint_edges;
 use crate::findings::add_never_matches;
 use crate::order::sort_unique;
 use crate::reach::reached_from;
@@ -29,9 +32,9 @@ use std::alloc::{AllocError, Global};
 /// No two warnings are equal. They are sorted by the start of their spans, those with the same start by kind, and those
 /// of the same kind by the end of their spans.
 ///
-/// Takes memory linear in the grammar. Takes time linear in the grammar, apart from hashing and sorting, and from the
-/// digests of alternatives, which read an expression once for each choice around it. The only error is a failed
-/// allocation.
+/// Takes memory linear in the grammar. Takes time linear in the grammar, apart from hashing and sorting. An expression is
+/// also read once for each choice and sequence around it, for the digests of alternatives and for what it begins with.
+/// The only error is a failed allocation.
 ///
 /// # Example
 ///
@@ -56,6 +59,7 @@ pub fn warnings(
     let table = table_of(alloc, core)?;
     let outcomes = rule_outcomes(alloc, core, &table)?;
     let mut found = Vec::new(alloc);
+    lint_rule_edges(alloc, grammar, &mut found)?;
     lint_rules(alloc, grammar, &outcomes, &mut found)?;
     add_unused_rules(alloc, grammar, start, &mut found)?;
     sort_unique(&mut found)?;
@@ -72,6 +76,24 @@ fn rule_outcomes(alloc: Global, core: &Core, table: &Table) -> Result<Vec<Can>, 
         outcomes.push(table.of(core.body(rule)))?;
     }
     Ok(outcomes)
+}
+
+// Adds the warnings that the edges of expressions show, if none nests too deep.
+fn lint_rule_edges(
+    alloc: Global,
+    grammar: &Grammar,
+    found: &mut Vec<Warning>,
+) -> Result<(), AllocError>
+    ensures { OnOk result (KeepsTrue (rules_in grammar.now) found.old.items found.new.items) }
+{
+    if !has_shallow_rules(grammar) {
+        return Ok(());
+    }
+    let table = edge_table(alloc, grammar)?;
+    'rules: for rule in 0..grammar.rules() {
+        lint_edges(grammar, &table, rule, grammar.body(rule), found)?;
+    }
+    Ok(())
 }
 
 // Adds the warnings about a rule's expression.

@@ -15,8 +15,6 @@ use crate::expressions::{literal_outcome, name_outcome, operator_outcome};
 use crate::findings::{add_never_matches, add_operator};
 use crate::outcomes::{all_of, any_of, class, or_else, some_bytes};
 use crate::repeats::add_same_alternatives;
-use crate::shadows::add_shadowed;
-use crate::stops::add_never_stops;
 use peg_check::Can;
 use peg_grammar::{Expr, Grammar};
 use std::alloc::{AllocError, Global};
@@ -47,7 +45,6 @@ pub(crate) fn lint_expression(
         Expr::Name { name, .. } => Ok(name_outcome(grammar, outcomes, name.as_str())),
         Expr::Seq { items, .. } => {
             let cans = lint_all(alloc, grammar, outcomes, rule, items, found)?;
-            add_never_stops(grammar, rule, items, found)?;
             Ok(all_of(&cans))
         }
         Expr::Choice { first, rest, .. } => {
@@ -55,7 +52,6 @@ pub(crate) fn lint_expression(
             add_never_matches(rule, first, can, found)?;
             let cans = lint_all(alloc, grammar, outcomes, rule, rest, found)?;
             add_same_alternatives(alloc, rule, first, rest, found)?;
-            add_shadowed(grammar, rule, first, rest, found)?;
             add_never_tried(rule, first, rest, can, &cans, found)?;
             Ok(or_else(can, any_of(&cans)))
         }

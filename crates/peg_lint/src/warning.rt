@@ -18,10 +18,14 @@ pub enum WarningKind {
     NoEffect,
     /// An alternative that is the same as an earlier one.
     SameAlternative,
-    /// An alternative that fails wherever an earlier literal, class or dot fails.
+    /// An alternative that fails wherever an earlier one fails.
     Shadowed,
     /// An item of a sequence that fails wherever the star or plus before it ends.
     NeverStops,
+    /// An item of a sequence that fails wherever the item before it, which is no star and no plus, ends.
+    NeverFollows,
+    /// An item of a sequence that matches no byte wherever the item before it ends.
+    TakesNothing,
     /// A range in a class whose first byte is greater than its last, so that it holds no byte.
     ReversedRange,
     /// An empty alternative that is not the last one, as a leading or a doubled slash leaves it.
@@ -63,6 +67,8 @@ impl WarningKind {
             | WarningKind::SameAlternative
             | WarningKind::Shadowed
             | WarningKind::NeverStops
+            | WarningKind::NeverFollows
+            | WarningKind::TakesNothing
             | WarningKind::ReversedRange => true,
             WarningKind::EmptyAlternative
             | WarningKind::AnyAtEnd
@@ -109,7 +115,7 @@ pub struct Warning {
     pub rule: u32,
     /// The span of the part in the grammar file, in byte offsets.
     pub span: Span,
-    /// The span of the earlier alternative or item that is the cause, for `NeverTried`, `SameAlternative`, `Shadowed`
-    /// and `NeverStops`.
+    /// The span of the earlier alternative or item that is the cause, for `NeverTried`, `SameAlternative`, `Shadowed`,
+    /// `NeverStops`, `NeverFollows` and `TakesNothing`.
     pub by: Option<Span>,
 }

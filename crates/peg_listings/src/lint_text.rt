@@ -173,6 +173,8 @@ fn name_of_kind(kind: WarningKind) -> &'static str
         WarningKind::SameAlternative => "SameAlternative",
         WarningKind::Shadowed => "Shadowed",
         WarningKind::NeverStops => "NeverStops",
+        WarningKind::NeverFollows => "NeverFollows",
+        WarningKind::TakesNothing => "TakesNothing",
         WarningKind::ReversedRange => "ReversedRange",
         WarningKind::EmptyAlternative => "EmptyAlternative",
         WarningKind::AnyAtEnd => "AnyAtEnd",

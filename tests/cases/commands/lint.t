@@ -98,6 +98,7 @@ The mistakes of the examples have each proved kind of warning once (docs/LINT.md
 
   $ pegtool lint examples/lint/mistakes.peg --proved | grep -o '"kind":"[A-Za-z]*"' | cut -d '"' -f 4 | LC_ALL=C sort
   AlwaysFails
+  NeverFollows
   NeverMatches
   NeverStops
   NeverTried
@@ -105,6 +106,7 @@ The mistakes of the examples have each proved kind of warning once (docs/LINT.md
   ReversedRange
   SameAlternative
   Shadowed
+  TakesNothing
   UnusedRule
 
 With the habits they have every kind of the two tables once.
@@ -118,6 +120,7 @@ With the habits they have every kind of the two tables once.
   EmptyAlternative
   HighBytesInClass
   HoldsLineEnd
+  NeverFollows
   NeverMatches
   NeverStops
   NeverTried
@@ -127,6 +130,7 @@ With the habits they have every kind of the two tables once.
   ReversedRange
   SameAlternative
   Shadowed
+  TakesNothing
   UnusedRule
 
 With warnings the status is 1, whether the habits are among them or not.

@@ -56,8 +56,11 @@ These expressions match some text: the recursion ends with b, and the others mat
   $ printf "S <- !'a' ." | pegtool lint /dev/stdin
   {"warnings":[]}
 
-Ford's abstract outcomes (2004, section 3.5) don't say on which bytes a part fails. So docs/LINT.md doesn't promise the
-warning that this sequence never matches.
+Ford's abstract outcomes (2004, section 3.5) don't say on which bytes a part fails. So this sequence has no NeverMatches,
+but its second item has NeverFollows. The and-predicate of the other one has no warning, though it never matches either.
 
   $ printf "S <- !'a' 'a'" | pegtool lint /dev/stdin
+  {"warnings":[{"by":[5,9],"column":11,"end":13,"kind":"NeverFollows","line":1,"proved":true,"rule":"S","start":10}]}
+  [1]
+  $ printf "S <- &'a' 'b'" | pegtool lint /dev/stdin
   {"warnings":[]}

@@ -40,9 +40,23 @@ The repetition ends before a digit, before x and at the end of the text.
   $ printf 'S <- .* !.' | pegtool lint /dev/stdin
   {"warnings":[]}
 
-An optional item never fails, so the sequence matches also after the star.
+A rule, a choice and a count are followed, too.
 
-  $ printf "S <- [a-z]* 'a'?" | pegtool lint /dev/stdin
+  $ printf "S <- D* D\nD <- [0-9]" | pegtool lint /dev/stdin
+  {"warnings":[{"by":[5,7],"column":9,"end":9,"kind":"NeverStops","line":1,"proved":true,"rule":"S","start":8}]}
+  [1]
+  $ printf "S <- ('a' / 'b')* 'a'" | pegtool lint /dev/stdin
+  {"warnings":[{"by":[5,17],"column":19,"end":21,"kind":"NeverStops","line":1,"proved":true,"rule":"S","start":18}]}
+  [1]
+  $ printf "S <- D* D{4}\nD <- [0-9] / [a-f]" | pegtool lint /dev/stdin
+  {"warnings":[{"by":[5,7],"column":9,"end":12,"kind":"NeverStops","line":1,"proved":true,"rule":"S","start":8}]}
+  [1]
+
+The choice takes a digit, an underscore, or neither, so a letter may follow the star.
+
+  $ printf "S <- ([0-9] / '_')* [a-z]" | pegtool lint /dev/stdin
+  {"warnings":[]}
+  $ printf "S <- ([0-9] / '_')* [0-9a-z]" | pegtool lint /dev/stdin
   {"warnings":[]}
 
 An optional part and a count end after their greatest number, and a may follow them.
@@ -57,8 +71,14 @@ The star of `'ab'` ends before a byte a that no b follows.
   $ printf "S <- 'ab'* 'a'" | pegtool lint /dev/stdin
   {"warnings":[]}
 
-What docs/LINT.md says that isn't found: an item after a repetition over more than a literal, a class or a dot. The star
-takes each a, so that none is left for the literal.
+A literal of several bytes is compared with the literal that is repeated.
 
-  $ printf "S <- ('a' / 'b')* 'a'" | pegtool lint /dev/stdin
+  $ printf "S <- 'ab'* 'abc'" | pegtool lint /dev/stdin
+  {"warnings":[{"by":[5,10],"column":12,"end":16,"kind":"NeverStops","line":1,"proved":true,"rule":"S","start":11}]}
+  [1]
+
+What docs/LINT.md says that isn't found: an item after a repetition over a sequence that may fail after its first byte.
+The star takes each ab, so that none is left for the literal.
+
+  $ printf "S <- ('a' 'b')* 'ab'" | pegtool lint /dev/stdin
   {"warnings":[]}

@@ -12,10 +12,10 @@ The classes `[a-c]` and `[abc]` have the same bytes, so the two sequences are eq
   {"warnings":[{"by":[5,14],"column":24,"end":32,"kind":"SameAlternative","line":1,"proved":true,"rule":"S","start":23}]}
   [1]
 
-The third alternative is that of the start again; the second one lacks the question mark.
+The third alternative is that of the start again. The second one lacks the question mark, so it is shadowed alone.
 
   $ printf "S <- A 'b'? / A 'b' / A 'b'?\nA <- 'a'" | pegtool lint /dev/stdin
-  {"warnings":[{"by":[5,11],"column":23,"end":28,"kind":"SameAlternative","line":1,"proved":true,"rule":"S","start":22}]}
+  {"warnings":[{"by":[5,11],"column":15,"end":19,"kind":"Shadowed","line":1,"proved":true,"rule":"S","start":14},{"by":[5,11],"column":23,"end":28,"kind":"SameAlternative","line":1,"proved":true,"rule":"S","start":22}]}
   [1]
 
 A choice that is an item of a sequence is compared, too.
@@ -45,15 +45,17 @@ These pairs differ: in case, in the number of literals, or in the second number 
   $ printf "S <- 'a'{1,2} / 'a'{1,3}" | pegtool lint /dev/stdin
   {"warnings":[]}
 
-Calls of different rules aren't compared, even if the rules have equal expressions.
+Calls of different rules aren't compared, even if the rules have equal expressions. The second one is shadowed here.
 
   $ printf "S <- A / B\nA <- 'a'\nB <- 'a'" | pegtool lint /dev/stdin
-  {"warnings":[]}
+  {"warnings":[{"by":[5,6],"column":10,"end":10,"kind":"Shadowed","line":1,"proved":true,"rule":"S","start":9}]}
+  [1]
 
-A plus and its part differ, and so do the predicates `!'a'` and `&'a'`.
+A plus and its part differ, though the plus shadows its part, and so do the predicates `!'a'` and `&'a'`.
 
   $ printf "S <- 'a'+ / 'a'" | pegtool lint /dev/stdin
-  {"warnings":[]}
+  {"warnings":[{"by":[5,9],"column":13,"end":15,"kind":"Shadowed","line":1,"proved":true,"rule":"S","start":12}]}
+  [1]
   $ printf "S <- !'a' 'b' / &'a' 'b'" | pegtool lint /dev/stdin
   {"warnings":[]}
 

@@ -65,14 +65,36 @@ The empty class after a dot has no warning, since it fails on purpose.
   $ printf 'S <- . / []' | pegtool lint /dev/stdin
   {"warnings":[]}
 
-What docs/LINT.md says that isn't found. A rule, a repetition and a sequence shadow the second alternative here: each of
-them fails only where the text begins with another character.
+A rule, a repetition and a sequence shadow the second alternative here: each of them fails only where the text begins
+with another character.
 
   $ printf "S <- L / '<='\nL <- '<'" | pegtool lint /dev/stdin
-  {"warnings":[]}
+  {"warnings":[{"by":[5,6],"column":10,"end":13,"kind":"Shadowed","line":1,"proved":true,"rule":"S","start":9}]}
+  [1]
   $ printf "S <- 'a'+ / 'ab'" | pegtool lint /dev/stdin
-  {"warnings":[]}
+  {"warnings":[{"by":[5,9],"column":13,"end":16,"kind":"Shadowed","line":1,"proved":true,"rule":"S","start":12}]}
+  [1]
   $ printf "S <- 'a' 'b'? / 'ac'" | pegtool lint /dev/stdin
+  {"warnings":[{"by":[5,13],"column":17,"end":20,"kind":"Shadowed","line":1,"proved":true,"rule":"S","start":16}]}
+  [1]
+
+The rule W for names takes the letter with which the keyword begins.
+
+  $ printf "S <- W / 'if'\nW <- [a-z]+ ' '*" | pegtool lint /dev/stdin
+  {"warnings":[{"by":[5,6],"column":10,"end":13,"kind":"Shadowed","line":1,"proved":true,"rule":"S","start":9}]}
+  [1]
+
+A rule that needs a second byte may fail where the text begins as the later alternative does.
+
+  $ printf "S <- W / 'if'\nW <- [a-z] [0-9]" | pegtool lint /dev/stdin
+  {"warnings":[]}
+
+What docs/LINT.md says that isn't found: an alternative that several earlier ones shadow together, or that is shadowed
+by a literal of several bytes in a rule.
+
+  $ printf "S <- [a-m] / [n-z] / [a-z]" | pegtool lint /dev/stdin
+  {"warnings":[]}
+  $ printf "S <- L / '<=>'\nL <- '<='" | pegtool lint /dev/stdin
   {"warnings":[]}
 
 An alternative is compared with the 32 before it. The first number of two digits is 11, so x is the 32nd before the last
@@ -86,11 +108,21 @@ alternative and then the 33rd.
   0
   [1]
 
-The later alternative is followed for seven steps, each to the expression of a rule.
+Names are followed through 16 rules, so the 17th isn't looked at. R1 is the first rule that is called.
 
-  $ for n in 7 8; do
+  $ for n in 16 17; do
   >   { printf "S <- 'x' / R1\n"; for k in $(seq $((n - 1))); do printf 'R%d <- R%d\n' $k $((k + 1)); done
   >     printf "R%d <- 'xy'\n" $n; } | pegtool lint /dev/stdin | grep -c '"kind":"Shadowed"'
+  > done
+  1
+  0
+  [1]
+
+A grammar that nests more than 100 deep isn't looked at. The literals are in a choice, and it is in 98 predicates or 99.
+
+  $ for n in 98 99; do
+  >   { printf 'S <- '; printf '!(%.0s' $(seq $n); printf "'a' / 'ab'"; printf ')%.0s' $(seq $n); } |
+  >     pegtool lint /dev/stdin | grep -c '"kind":"Shadowed"'
   > done
   1
   0

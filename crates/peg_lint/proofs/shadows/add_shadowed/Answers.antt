@@ -12,7 +12,7 @@ use Rattle.peg_lint.specs.declared.warning.WarningKind.TheVariants as kind
 use Rattle.peg_lint.proofs.shadows.add_shadowed.Goals as goal
 
 pub alternatives-preserved : goal.alternatives-preserved
-alternatives-preserved c = λ span part.
+alternatives-preserved c = λ n span known part.
     let rules = rules_in c.args.grammar.now in
     let first = form_of c.args.first.now in
     let rest = forms (map form_of c.args.rest.now) in
@@ -36,7 +36,7 @@ alternatives-preserved c = λ span part.
           c.alternative_at-before.ensures c.alternative_at-later.ensures,
       sym c.span_of.ensures,
       ap Some (sym c.span_of-in-alternatives.ensures),
-      c.in-Some.ensures.fails earlier later c.alternative_at-before.ensures c.alternative_at-later.ensures,
+      c.in-Some.ensures.fails n earlier later known c.alternative_at-before.ensures c.alternative_at-later.ensures,
     ) in
-    KeepsTrue-both rules c.args.found.now.items found c.push.new.self.items (c.alternatives.invariant span part)
+    KeepsTrue-both rules c.args.found.now.items found c.push.new.self.items (c.alternatives.invariant n span known part)
     (subst (KeepsTrue rules found) (sym c.in_ok-push.ensures.items) (KeepsTrue-push rules found w (λ start. says)))

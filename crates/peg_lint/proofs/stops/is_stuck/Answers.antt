@@ -8,7 +8,7 @@ returns c = λ yes.
     let rules = rules_in c.args.grammar.now in
     let part = form_of c.in-Some.part.now in (
       part,
-      c.in-Some.ensures,
+      c.in-Some.ensures.some,
       fails-through rules part (form_of c.in-Some-head.start.now) (form_of c.args.next.now) (c.covers.ensures yes rules)
           c.in-Some-head.ensures,
     )

@@ -19,7 +19,6 @@ use Rattle.peg_semantics.specs.RuleOutcomes.{IsAbstractOutcome}
 use Rattle.peg_semantics.specs.WellFormed.{below, subexpressions}
 use Rattle.peg_lint.specs.Linting.{Adds, FindsBelow, FindsExcluded, FindsOfAll, FindsUntried}
 use Rattle.peg_lint.specs.Outcomes.{AreOutcomes, outcome_of_all, outcome_of_any}
-use Rattle.peg_lint.specs.Warnings.{IsPartOfRule}
 use Rattle.peg_lint.proofs.OutcomeLemmas.{of-Any, of-Choice, of-Class, of-Seq}
 use Rattle.peg_lint.proofs.PartLemmas.{AreOutcomes-all, AreOutcomes-more, choice-with, first-is, form_of-Any, form_of-Class}
 use Rattle.peg_lint.proofs.PartLemmas.{first-placed, form_of-Literal, is_on, item-among, item-parts, items-are, items-placed}
@@ -210,8 +209,8 @@ lint_expression-returns-in-Name-clause-outcome t c =
     (subst (λ (l : List ℕ). IsAbstractOutcome rules (form.Name l span) can) c.as_str.ensures.value
     (c.name_outcome.ensures span))
 
-pub lint_expression-returns-in_ok-add_never_stops-in-Seq-clause-outcome : goal.lint_expression-returns-in_ok-add_never_stops-in-Seq-clause-outcome
-lint_expression-returns-in_ok-add_never_stops-in-Seq-clause-outcome t c =
+pub lint_expression-returns-in_ok-cans-in-Seq-clause-outcome : goal.lint_expression-returns-in_ok-cans-in-Seq-clause-outcome
+lint_expression-returns-in_ok-cans-in-Seq-clause-outcome t c =
     let rules = rules_in c.args.grammar.now in
     let items = forms (map form_of c.in-Seq.items.items) in
     let span = extent c.in-Seq.span in
@@ -220,7 +219,7 @@ lint_expression-returns-in_ok-add_never_stops-in-Seq-clause-outcome t c =
     let here = ap (λ (l : List Expr). forms (map form_of l)) c.deref-in-Seq.ensures.value in
     let outcomes = subst (λ (l : Forms). AreOutcomes rules l (map can_of cans)) here c.in_ok-cans-in-Seq.ensures.outcomes in
     let outcome : can_of c.all_of.result ≡ outcome_of_all (map can_of cans) =
-    c.all_of.ensures ∙ ap (λ (l : List code.Can). outcome_of_all (map can_of l)) c.deref-in-Seq-3.ensures.value in
+    c.all_of.ensures ∙ ap (λ (l : List code.Can). outcome_of_all (map can_of l)) c.deref-in-Seq-2.ensures.value in
     subst (λ (f : Form). IsAbstractOutcome rules f (can_of c.all_of.result)) (sym same)
     (subst (λ (can : Can). IsAbstractOutcome rules (form.Seq items span) can) (sym outcome)
     (of-Seq rules items span (map can_of cans) outcomes))
@@ -241,7 +240,7 @@ lint_expression-returns-in_ok-add_never_tried-in-Choice-clause-outcome t c =
     let others = subst (λ (l : Forms). AreOutcomes rules l (map can_of cans)) at_rest c.in_ok-cans-in-Choice.ensures.outcomes in
     let outcome : can_of c.or_else.result ≡ choice_outcome can (outcome_of_any (map can_of cans)) =
     c.or_else.ensures ∙ ap (choice_outcome can) (c.any_of.ensures
-    ∙ ap (λ (l : List code.Can). outcome_of_any (map can_of l)) c.deref-in-Choice-11.ensures.value) in
+    ∙ ap (λ (l : List code.Can). outcome_of_any (map can_of l)) c.deref-in-Choice-9.ensures.value) in
     subst (λ (f : Form). IsAbstractOutcome rules f (can_of c.or_else.result)) (sym same)
     (subst (λ (can : Can). IsAbstractOutcome rules (form.Choice first rest span) can) (sym outcome)
     (of-Choice rules first rest span can (map can_of cans) one others))
@@ -257,9 +256,9 @@ lint_expression-returns-in_ok-add_never_tried-in-Choice-clause-adds t c =
     let at_first = ap form_of c.deref-in-Choice.ensures in
     let at_rest = ap (λ (l : List Expr). forms (map form_of l)) c.deref-in-Choice-3.ensures.value in
     let at_second = ap form_of c.deref-in-Choice-2.ensures in
-    let at_fourth = ap form_of c.deref-in-Choice-8.ensures in
-    let at_fifth = ap (λ (l : List Expr). forms (map form_of l)) c.deref-in-Choice-9.ensures.value in
-    let at_cans = ap (map can_of) c.deref-in-Choice-10.ensures.value in
+    let at_fourth = ap form_of c.deref-in-Choice-6.ensures in
+    let at_fifth = ap (λ (l : List Expr). forms (map form_of l)) c.deref-in-Choice-7.ensures.value in
+    let at_cans = ap (map can_of) c.deref-in-Choice-8.ensures.value in
     let can = can_of c.in_ok-can-in-Choice.can in
     let cans = map can_of c.in_ok-cans-in-Choice.cans.items in
     let parts = c.requires.parts in
@@ -268,8 +267,8 @@ lint_expression-returns-in_ok-add_never_tried-in-Choice-clause-adds t c =
     let part = whole rules c.args.rule second (first-is rules c.args.rule e parts first rest span same second at_second) in
     let outcome = subst (λ (f : Form). IsAbstractOutcome rules f can) (at_first ∙ sym at_second) c.in_ok-can-in-Choice.ensures.outcome in
     let choice = choice-with rules c.args.rule e parts first rest span same (form_of c.deref-in-Choice.result.now)
-    (form_of c.deref-in-Choice-8.result.now) (forms (map form_of c.deref-in-Choice-3.result.now))
-    (forms (map form_of c.deref-in-Choice-9.result.now)) can cans (map can_of c.deref-in-Choice-10.result.now)
+    (form_of c.deref-in-Choice-6.result.now) (forms (map form_of c.deref-in-Choice-3.result.now))
+    (forms (map form_of c.deref-in-Choice-7.result.now)) can cans (map can_of c.deref-in-Choice-8.result.now)
     at_first at_fourth at_rest at_fifth at_cans c.in_ok-can-in-Choice.ensures.outcome
     c.in_ok-cans-in-Choice.ensures.outcomes in
     let again = choice-with rules c.args.rule e parts first rest span same (form_of c.deref-in-Choice.result.now)
@@ -277,32 +276,25 @@ lint_expression-returns-in_ok-add_never_tried-in-Choice-clause-adds t c =
     (forms (map form_of c.deref-in-Choice-5.result.now)) can cans cans at_first (ap form_of c.deref-in-Choice-4.ensures)
     at_rest (ap (λ (l : List Expr). forms (map form_of l)) c.deref-in-Choice-5.ensures.value) refl
     c.in_ok-can-in-Choice.ensures.outcome c.in_ok-cans-in-Choice.ensures.outcomes in
-    let shadowed = choice-with rules c.args.rule e parts first rest span same (form_of c.deref-in-Choice.result.now)
-    (form_of c.deref-in-Choice-6.result.now) (forms (map form_of c.deref-in-Choice-3.result.now))
-    (forms (map form_of c.deref-in-Choice-7.result.now)) can cans cans at_first (ap form_of c.deref-in-Choice-6.ensures)
-    at_rest (ap (λ (l : List Expr). forms (map form_of l)) c.deref-in-Choice-7.ensures.value) refl
-    c.in_ok-can-in-Choice.ensures.outcome c.in_ok-cans-in-Choice.ensures.outcomes in
     let number = c.args.rule in
     let l0 = c.args.found.now.items in
     let l1 = c.lint_expression.new.found.items in
     let l2 = c.add_never_matches.new.found.items in
     let l3 = c.lint_all-in-Choice.new.found.items in
     let l4 = c.add_same_alternatives.new.found.items in
-    let l5 = c.add_shadowed.new.found.items in
-    let l6 = c.add_never_tried.new.found.items in
+    let l5 = c.add_never_tried.new.found.items in
     let placed = first-placed rules number e parts first rest span same (form_of c.deref-in-Choice-2.result.now) at_second in
-    let ninth : form.Choice (form_of c.deref-in-Choice-8.result.now) (forms (map form_of c.deref-in-Choice-9.result.now)) span
+    let ninth : form.Choice (form_of c.deref-in-Choice-6.result.now) (forms (map form_of c.deref-in-Choice-7.result.now)) span
     ≡ form.Choice first rest span = λ i. form.Choice (at_fourth i) (at_fifth i) span in
-    subst (λ (f : Form). Adds rules (FindsOfAll rules number (subexpressions f)) l0 l6) (sym same)
-    (Adds-choice rules number first rest span l0 l1 l2 l3 l4 l5 l6
+    subst (λ (f : Form). Adds rules (FindsOfAll rules number (subexpressions f)) l0 l5) (sym same)
+    (Adds-choice rules number first rest span l0 l1 l2 l3 l4 l5
     (subst (λ (f : Form). Adds rules (FindsOfAll rules number (subexpressions f)) l0 l1) at_first
     c.in_ok-can-in-Choice.ensures.adds)
     (subst (λ (f : Form). Adds rules (FindsExcluded rules number f) l1 l2) at_second
     (c.in_ok-add_never_matches-in-Choice.ensures rules part placed outcome))
     (subst (λ (f : Forms). Adds rules (FindsBelow rules number f) l2 l3) at_rest c.in_ok-cans-in-Choice.ensures.adds)
     (c.in_ok-add_same_alternatives-in-Choice.ensures rules span again.part)
-    (c.in_ok-add_shadowed-in-Choice.ensures span shadowed.part)
-    (subst (λ (f : Form). Adds rules (FindsUntried rules number f) l5 l6) ninth
+    (subst (λ (f : Form). Adds rules (FindsUntried rules number f) l4 l5) ninth
     (c.in_ok-add_never_tried-in-Choice.ensures rules span choice)))
 
 pub lint_expression-returns-in_ok-add_operator-in-Optional-clause-outcome : goal.lint_expression-returns-in_ok-add_operator-in-Optional-clause-outcome
@@ -333,24 +325,19 @@ lint_expression-returns-in_ok-add_operator-in-Optional-clause-adds t c =
     c.in_ok-can-in-Optional.ensures.adds)
     (c.in_ok-add_operator-in-Optional.ensures rules e part on.on outcome)
 
-pub lint_expression-returns-in_ok-add_never_stops-in-Seq-clause-adds : goal.lint_expression-returns-in_ok-add_never_stops-in-Seq-clause-adds
-lint_expression-returns-in_ok-add_never_stops-in-Seq-clause-adds t c =
+pub lint_expression-returns-in_ok-cans-in-Seq-clause-adds : goal.lint_expression-returns-in_ok-cans-in-Seq-clause-adds
+lint_expression-returns-in_ok-cans-in-Seq-clause-adds t c =
     let rules = rules_in c.args.grammar.now in
     let number = c.args.rule in
     let items = forms (map form_of c.in-Seq.items.items) in
     let span = extent c.in-Seq.span in
     let same = ap form_of c.in-Seq.is ∙ form_of-Seq c.in-Seq.items c.in-Seq.span in
     let at_items = ap (λ (l : List Expr). forms (map form_of l)) c.deref-in-Seq.ensures.value in
-    let here = ap (λ (l : List Expr). form.Seq (forms (map form_of l)) span) c.deref-in-Seq-2.ensures.value in
-    let part = subst (IsPartOfRule rules number) (same ∙ sym here)
-    (whole rules number (form_of c.args.expr.now) c.requires.parts) in
     let l0 = c.args.found.now.items in
     let l1 = c.lint_all.new.found.items in
-    let l2 = c.add_never_stops.new.found.items in
-    subst (λ (f : Form). Adds rules (FindsOfAll rules number (subexpressions f)) l0 l2) (sym same)
-    (Adds-seq rules number items span l0 l1 l2
-    (subst (λ (f : Forms). Adds rules (FindsBelow rules number f) l0 l1) at_items c.in_ok-cans-in-Seq.ensures.adds)
-    (c.in_ok-add_never_stops-in-Seq.ensures span part))
+    subst (λ (f : Form). Adds rules (FindsOfAll rules number (subexpressions f)) l0 l1) (sym same)
+    (Adds-seq rules number items span l0 l1
+    (subst (λ (f : Forms). Adds rules (FindsBelow rules number f) l0 l1) at_items c.in_ok-cans-in-Seq.ensures.adds))
 
 pub lint_expression-returns-in-Literal-clause-adds : goal.lint_expression-returns-in-Literal-clause-adds
 lint_expression-returns-in-Literal-clause-adds t c =
