@@ -35,6 +35,7 @@ PURPOSE = {
     "peg_parser": "a grammar file -> a parser or a refusal; a text -> an answer",
     "peg_diagnostics": "a grammar -> grammars that show blame and alternatives",
     "peg_blame": "a parser, a text -> the furthest failure outside predicates",
+    "peg_spacing": "a grammar -> the rules that are spacing",
     "peg_messages": "a failure or a refusal -> a message",
     "peg_explain": "a parser, a text -> a message, or none",
     "peg_explain_files": "names of files -> messages, a verdict",

@@ -10,7 +10,7 @@ use Rattle.peg_explain.specs.Explanations.{max_items}
 use Rattle.peg_explain.specs.Reports.{are_items_expected}
 
 -- the number of items that are looked at
-most : max_items ≡ 65536
+pub most : max_items ≡ 65536
 unfolding max_items
 most = refl
 

@@ -9,7 +9,7 @@ use Rattle.peg_semantics.specs.Rules.{Rule}
 use Rattle.peg_tree.specs.declared.outcome.Outcome.{Outcome}
 use Rattle.peg_explain.specs.Explanations.{AreRestsFor, HasNoBlameParser, HasStepsWithin, IsExplained, IsExplanation}
 use Rattle.peg_explain.specs.Explanations.{IsMismatchIn, IsMismatchMessage, ItemFacts, by_blame, by_tests, facts_by_blame}
-use Rattle.peg_explain.specs.Explanations.{facts_by_tests}
+use Rattle.peg_explain.specs.Explanations.{facts_by_tests, left_out_spacing}
 use Rattle.peg_explain.specs.declared.mismatch.Mismatch.{Mismatch}
 use Rattle.peg_explain.specs.declared.names.Rest.{Rest}
 use Rattle.peg_explain.specs.declared.style.ItemStyle.{ItemStyle}
@@ -20,7 +20,7 @@ pub blame-explains : (rules : List Rule) (style : ItemStyle) (text : List ℕ) (
     → IfSome found (λ start. IsBlameOutcome rules text start outcome)
     → ((start : List ℕ) → found ≡ Some start → (is : IsBlameOutcome rules text start outcome)
     → (rests : List Rest) × AreRestsFor rules style text start outcome is.blame.calls rests
-    × Says (facts_by_blame rules rests) outcome)
+    × Says (facts_by_blame rules (left_out_spacing rules style outcome) rests) outcome)
     → IfSome found (λ start. IsExplained rules style text start Says)
 blame-explains rules style text None outcome Says blamed says = tt
 blame-explains rules style text (Some start) outcome Says blamed says =

@@ -57,18 +57,18 @@ module _ (style : ItemStyle) (bytes : ℕ) (outcome : Outcome) where
       and-false true = refl
       and-false false = refl
 
-module _ (rules : List Rule) (text start : List ℕ) (calls : List RuleCall) where
+module _ (rules : List Rule) (spacing : List Bool) (text start : List ℕ) (calls : List RuleCall) where
   -- no rests, if no rules are named
-  pub no-rests : (named : Bool) (at : ℕ) → named ≡ false → AreRestsBy named rules text start calls at []
+  pub no-rests : (named : Bool) (at : ℕ) → named ≡ false → AreRestsBy named rules spacing text start calls at []
   no-rests false at none = refl
   no-rests true at none = absurd (let bad : true ≡ false = none in cc)
 
   -- the rests by which rules are named, if they are
   pub rests-by : (named : Bool) (at there : ℕ) (rests : List Rest) → named ≡ true → at ≡ there
-      → AreRests rules text start calls at rests → AreRestsBy named rules text start calls there rests
+      → AreRests rules spacing text start calls at rests → AreRestsBy named rules spacing text start calls there rests
   rests-by false at there rests used place are = absurd (let bad : false ≡ true = used in cc)
   rests-by true at there rests used place are =
-      subst (λ (p : ℕ). AreRests rules text start calls p rests) place are
+      subst (λ (p : ℕ). AreRests rules spacing text start calls p rests) place are
 
 -- ---- the name of the start
 
@@ -135,14 +135,14 @@ not-memory {V} result why alone is =
 -- ---- the rests that are parsed
 
 -- the rests from the first rules that are called
-pub are-rests : (rules : List Rule) (text start : List ℕ) (calls : List RuleCall) (at : ℕ) (numbers : List ℕ)
-    (result : Result (Vec Rest Global) ParseFault) → numbers ≡ take 64 (rules_called_at rules start calls at)
+pub are-rests : (rules : List Rule) (spacing : List Bool) (text start : List ℕ) (calls : List RuleCall) (at : ℕ) (numbers : List ℕ)
+    (result : Result (Vec Rest Global) ParseFault) → numbers ≡ take 64 (rules_called_at rules spacing start calls at)
     → IfOk result (λ rests. map (λ (rest : Rest). rest.rule) rests.items ≡ numbers)
     → IfOk result (λ rests. All (IsRest rules text at) rests.items)
-    → IfOk result (λ rests. AreRests rules text start calls at rests.items)
-are-rests rules text start calls at numbers (Err why) first from each = tt
-are-rests rules text start calls at numbers (Ok rests) first from each = record {
-  from = from ∙ first ∙ ap (λ (n : ℕ). take n (rules_called_at rules start calls at)) (sym most);
+    → IfOk result (λ rests. AreRests rules spacing text start calls at rests.items)
+are-rests rules spacing text start calls at numbers (Err why) first from each = tt
+are-rests rules spacing text start calls at numbers (Ok rests) first from each = record {
+  from = from ∙ first ∙ ap (λ (n : ℕ). take n (rules_called_at rules spacing start calls at)) (sym most);
   each = each;
 }
 

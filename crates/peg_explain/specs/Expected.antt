@@ -26,6 +26,7 @@ facts_in items rests = record {
   extents = map extent items.spans.now;
   rules = items.rules.now;
   kinds = items.kinds.now;
+  spacing = items.spacing.now;
   rests = rests;
   analysis = analysis.Items;
 }

@@ -1,8 +1,8 @@
 -- The explanation of a text: the message for the outcome of its parse.
-use Rattle.std.specs.Prelude.{◌≡◌, ◌≢◌, ◌⊎◌, ◌≤◌, ℕ, Bool, true, false, not, ◌&&◌, if◌then◌else◌, List, [], ◌∷◌}
+use Rattle.std.specs.Prelude.{◌≡◌, ◌≢◌, ◌⊎◌, ◌≤◌, ℕ, Bool, true, false, not, ◌&&◌, ◌||◌, if◌then◌else◌, List, [], ◌∷◌}
 use Rattle.std.specs.Prelude.{◌++◌, codes, drop, IfSome, Option, None, Some, length, map, nat_le, option_map, slice_get}
 use Rattle.std.specs.Prelude.{take, unwrap_or}
-use Rattle.std.specs.List.{prefix_len}
+use Rattle.std.specs.List.{list_any, prefix_len}
 use Rattle.peg_blame.specs.BlameOutcome.{IsBlameOutcome}
 use Rattle.peg_blame.specs.Faults.{CanBeBlamed, IsBlameRefusal}
 use Rattle.peg_blame.specs.declared.fault.BlameFault.{BlameFault}
@@ -23,6 +23,7 @@ use Rattle.peg_semantics.specs.Record.{RuleCall}
 use Rattle.peg_semantics.specs.Rules.{Rule, names}
 use Rattle.peg_semantics.specs.Starts.{start_name}
 use Rattle.peg_semantics.specs.Terminals.{extents_of_terminals}
+use Rattle.peg_spacing.specs.Spacing.{has_flag, spacing_of}
 use Rattle.peg_tree.specs.declared.outcome.Outcome.{Outcome}
 use Rattle.peg_explain.specs.Names.{AreRests, is_class_or_dot, is_part, numbered_extent, outermost_rules, stands_for}
 use Rattle.peg_explain.specs.declared.mismatch.Analysis.{Analysis}
@@ -40,21 +41,23 @@ unfoldable pub max_items : ℕ
 max_items = 65536
 
 -- What is known of the items that a message can name: the extent of each in the grammar file, the number of the rule
--- and the kind of each, the outcomes of the rest of the text from rules that are called at the position, and which
--- failures were analysed.
+-- and the kind of each, the rules that are left out as spacing, the outcomes of the rest of the text from rules that are
+-- called at the position, and which failures were analysed.
 pub record ItemFacts : Type 0 where
   pub extents : List Extent
   pub rules : List ℕ
   pub kinds : List ItemKind
+  pub spacing : List Bool
   pub rests : List Rest
   pub analysis : Analysis
 
 -- what is known by a blame
-abbrev pub facts_by_blame : List Rule → List Rest → ItemFacts
-facts_by_blame rules rests = record {
+abbrev pub facts_by_blame : List Rule → (spacing : List Bool) → List Rest → ItemFacts
+facts_by_blame rules spacing rests = record {
   extents = extents_of_items rules;
   rules = rules_of_items rules;
   kinds = kinds_of_items rules;
+  spacing = spacing;
   rests = rests;
   analysis = Items;
 }
@@ -62,7 +65,7 @@ facts_by_blame rules rests = record {
 -- what is known by the failed tests of terminals: neither their rules nor which calls are outside predicates
 abbrev pub facts_by_tests : List Rule → ItemFacts
 facts_by_tests rules =
-    record { extents = extents_of_terminals rules; rules = []; kinds = []; rests = []; analysis = Tests }
+    record { extents = extents_of_terminals rules; rules = []; kinds = []; spacing = []; rests = []; analysis = Tests }
 
 -- ---- what is expected
 
@@ -80,10 +83,16 @@ abbrev pub is_named_after : List Rest → Option ℕ → (item : ℕ) → Bool
 is_named_after rests None item = false
 is_named_after rests (Some rule) item = stands_for rests rule item
 
--- How an item is written. A part of a rule that fails at once is left out, since the rule is written. Another class or
--- dot is named after its rule if the rule stands for it.
+-- the rule of an item is known and is left out as spacing
+abbrev pub is_in_spacing : (spacing : List Bool) → Option ℕ → Bool
+is_in_spacing spacing None = false
+is_in_spacing spacing (Some rule) = has_flag spacing rule
+
+-- How an item is written. An item in spacing is left out. So is a part of a rule that fails at once, since the rule is
+-- written. Another class or dot is named after its rule if the rule stands for it.
 abbrev pub item_wording : ItemFacts → (number : ℕ) → Wording
 item_wording facts number =
+    if is_in_spacing facts.spacing (slice_get facts.rules number) then LeftOut else
     if is_part facts.rests (length facts.extents) number then LeftOut else
     if is_class_or_dot facts.kinds number && is_named_after facts.rests (slice_get facts.rules number) number
     then RuleName else Spelling
@@ -206,6 +215,19 @@ HasMessage file rules style facts name text outcome (Some message) = (mismatch :
     × HasMismatch facts text outcome (Some mismatch)
     × IsMismatchMessage file rules style name text mismatch message
 
+-- Something besides spacing is expected: the end of the text, or one of the items that a message looks at.
+abbrev pub is_more_expected : (spacing : List Bool) → (rules_of_items : List ℕ) → Outcome → Bool
+is_more_expected spacing rules_of_items outcome =
+    is_end_expected outcome.result outcome.far
+    || list_any (λ item. not (is_in_spacing spacing (slice_get rules_of_items item)))
+    (take max_items outcome.expected.items)
+
+-- The rules that a message leaves out: those that are in spacing, if the style uses names and more is expected.
+abbrev pub left_out_spacing : List Rule → ItemStyle → Outcome → List Bool
+left_out_spacing rules style outcome =
+    if style.uses_names && is_more_expected (spacing_of rules) (rules_of_items rules) outcome
+    then spacing_of rules else []
+
 -- The rules have no parser of blame, for another reason than memory: they aren't well-formed, the name of a rule
 -- contains an exclamation mark, or their diagnostic grammar is over a limit.
 abbrev pub HasNoBlameParser : List Rule → Type 0
@@ -217,15 +239,15 @@ names_rules style bytes outcome =
     style.uses_names && not (is_whole_match outcome.result bytes) && are_items_expected outcome.result outcome.far
 
 -- the rests by which a message names rules at a position, given the calls of a blame: none if it names none
-abbrev pub AreRestsBy : (names_rules : Bool) → List Rule → (text start : List ℕ) → List RuleCall → (at : ℕ)
-    → List Rest → Type 0
-AreRestsBy false rules text start calls at rests = rests ≡ []
-AreRestsBy true rules text start calls at rests = AreRests rules text start calls at rests
+abbrev pub AreRestsBy : (names_rules : Bool) → List Rule → (spacing : List Bool) → (text start : List ℕ) → List RuleCall
+    → (at : ℕ) → List Rest → Type 0
+AreRestsBy false rules spacing text start calls at rests = rests ≡ []
+AreRestsBy true rules spacing text start calls at rests = AreRests rules spacing text start calls at rests
 
 -- the same for the message for an outcome, given the calls of its blame
 abbrev pub AreRestsFor : List Rule → ItemStyle → (text start : List ℕ) → Outcome → List RuleCall → List Rest → Type 0
 AreRestsFor rules style text start outcome calls rests =
-    AreRestsBy (names_rules style (length text) outcome) rules text start calls
+    AreRestsBy (names_rules style (length text) outcome) rules (left_out_spacing rules style outcome) text start calls
     (named_position outcome.result outcome.far) rests
 
 -- What an explanation says of a text from a start rule, given what is known of the items and the outcome: by the blame of
@@ -234,7 +256,8 @@ pub data IsExplained (rules : List Rule) (style : ItemStyle) (text start : List 
     (Says : ItemFacts → Outcome → Type 0) : Type 0 where
   by_blame : (outcome : Outcome) → (is : IsBlameOutcome rules text start outcome) → (rests : List Rest)
       → AreRestsFor rules style text start outcome is.blame.calls rests
-      → Says (facts_by_blame rules rests) outcome → IsExplained rules style text start Says
+      → Says (facts_by_blame rules (left_out_spacing rules style outcome) rests) outcome
+      → IsExplained rules style text start Says
   by_tests : (outcome : Outcome) → HasNoBlameParser rules → IsParseOutcome rules text start outcome
       → Says (facts_by_tests rules) outcome → IsExplained rules style text start Says
 

@@ -21,6 +21,7 @@ pub use Rattle.peg_semantics.specs.Record
 pub use Rattle.peg_semantics.specs.Rules
 pub use Rattle.peg_semantics.specs.Starts
 pub use Rattle.peg_semantics.specs.Terminals
+pub use Rattle.peg_spacing.specs.Spacing
 pub mod Expected
 pub mod Explainers
 pub mod Explanations

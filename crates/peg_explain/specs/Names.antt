@@ -10,6 +10,7 @@ use Rattle.peg_diagnostics.specs.declared.kinds.ItemKind.TheVariants.{Byte}
 use Rattle.peg_semantics.specs.Form.{Any, Form, Not}
 use Rattle.peg_semantics.specs.Record.{RuleCall}
 use Rattle.peg_semantics.specs.Rules.{Rule, name_of}
+use Rattle.peg_spacing.specs.Spacing.{has_flag}
 use Rattle.peg_tree.specs.Selected.{has_rule}
 use Rattle.peg_tree.specs.declared.outcome.Parsed.{Parsed}
 use Rattle.peg_tree.specs.declared.outcome.Parsed.TheVariants.{Failed, Matched}
@@ -48,15 +49,16 @@ abbrev pub is_end_rule : Option Form → Bool
 is_end_rule None = false
 is_end_rule (Some body) = is_end body
 
--- a rule can be named if it is neither the start nor the end of the text
-abbrev pub can_be_named : List Rule → (start : List ℕ) → (rule : ℕ) → Bool
-can_be_named rules start rule =
+-- a rule can be named if it is neither the start nor the end of the text, and isn't left out as spacing
+abbrev pub can_be_named : List Rule → (spacing : List Bool) → (start : List ℕ) → (rule : ℕ) → Bool
+can_be_named rules spacing start rule =
     not (bytes_eq (name_of rules rule) start) && not (is_end_rule (option_map (λ r. r.body) (slice_get rules rule)))
+    && not (has_flag spacing rule)
 
 -- the rules that can be named and are called at a position, in ascending order
-abbrev pub rules_called_at : List Rule → (start : List ℕ) → List RuleCall → (at : ℕ) → List ℕ
-rules_called_at rules start calls at =
-    filter (λ rule. is_called calls rule at && can_be_named rules start rule) (range_with_len 0 (length rules))
+abbrev pub rules_called_at : List Rule → (spacing : List Bool) → (start : List ℕ) → List RuleCall → (at : ℕ) → List ℕ
+rules_called_at rules spacing start calls at =
+    filter (λ rule. is_called calls rule at && can_be_named rules spacing start rule) (range_with_len 0 (length rules))
 
 -- The rest of a text from a position, parsed from a rule: its outcome by its blame, and the rules that the blame calls
 -- at the start of the rest.
@@ -65,9 +67,9 @@ pub record IsRest (rules : List Rule) (text : List ℕ) (at : ℕ) (rest : Rest)
   pub called : HasCalledRules rules (drop at text) (name_of rules rest.rule) 0 rest.called
 
 -- The rest of the text was parsed from the first rules that are called at the position.
-pub record AreRests (rules : List Rule) (text start : List ℕ) (calls : List RuleCall) (at : ℕ)
+pub record AreRests (rules : List Rule) (spacing : List Bool) (text start : List ℕ) (calls : List RuleCall) (at : ℕ)
     (rests : List Rest) : Type 0 where
-  pub from : map (λ rest. rest.rule) rests ≡ take max_named (rules_called_at rules start calls at)
+  pub from : map (λ rest. rest.rule) rests ≡ take max_named (rules_called_at rules spacing start calls at)
   pub each : All (IsRest rules text at) rests
 
 -- ---- rules that fail at once

@@ -8,7 +8,7 @@ use Rattle.peg_semantics.specs.Record.{RuleCall}
 use Rattle.peg_semantics.specs.Rules.{Rule}
 use Rattle.peg_tree.specs.Selected.{has_rule}
 use Rattle.peg_tree.specs.declared.outcome.Outcome.{Outcome}
-use Rattle.peg_explain.specs.Explanations.{AreRestsFor, ItemFact, expected_items, facts_by_blame}
+use Rattle.peg_explain.specs.Explanations.{AreRestsFor, ItemFact, expected_items, facts_by_blame, left_out_spacing}
 use Rattle.peg_explain.specs.Names.{outermost_rules}
 use Rattle.peg_explain.specs.Reports.{is_whole_match}
 use Rattle.peg_explain.specs.declared.names.Naming.{Naming}
@@ -33,4 +33,4 @@ AreItemsFor rules style text start outcome calls items named =
     (rests : List Rest) × AreRestsFor rules style text start outcome calls rests
     × (named ≡ outermost_rules rests)
     × (is_whole_match outcome.result (length text) ≡ false
-    → items ≡ expected_items (facts_by_blame rules rests) outcome)
+    → items ≡ expected_items (facts_by_blame rules (left_out_spacing rules style outcome) rests) outcome)

@@ -1,17 +1,20 @@
 //! What is expected at the offset of a mismatch.
-ghost use Rattle.std.specs.Prelude.{◌≡◌, ◌^◌, ◌≤◌, ◌<◌, ℕ, All, IfOk, length, map, slice_index_or, take};
+ghost use Rattle.std.specs.Prelude.{◌≡◌, ◌^◌, ◌≤◌, ◌<◌, ℕ, All, IfOk, length, map, not};
+ghost use Rattle.std.specs.Prelude.{slice_get, slice_index_or, take};
+ghost use Rattle.std.specs.List.{list_any};
 ghost use Rattle.peg_bytes.specs.Extent.{between, extent};
 ghost use Rattle.peg_parser.specs.Fits.{Fits};
 ghost use Rattle.peg_parser.specs.Parser.{parser_rules};
 ghost use Rattle.peg_semantics.specs.Terminals.{extents_of_terminals};
 ghost use Rattle.peg_explain.specs.Expected.{expected_spans, facts_in, numbered_spans, unnamed_fact};
-ghost use Rattle.peg_explain.specs.Explanations.{fact_of, is_named_after, item_numbered, item_wording};
+ghost use Rattle.peg_explain.specs.Explanations.{fact_of, is_in_spacing, is_more_expected, is_named_after};
+ghost use Rattle.peg_explain.specs.Explanations.{item_numbered, item_wording};
 ghost use Rattle.peg_explain.specs.Names.{is_class_or_dot, is_part};
 ghost use Rattle.peg_explain.specs.Parts.{has_part};
 
 use crate::mismatch::{ExpectedItem, Wording};
-use crate::names::{Rest, stands_for};
-use crate::outcomes::are_items_expected;
+use crate::names::{Rest, is_flagged, stands_for};
+use crate::outcomes::{are_items_expected, is_end_expected};
 use crate::parts::Parts;
 use peg_bytes::Span;
 use peg_diagnostics::ItemKind;
@@ -22,16 +25,17 @@ use std::alloc::{AllocError, Global};
 // The most items that a message looks at.
 const MAX_ITEMS: usize = 65_536;
 
-/// The items of a grammar file: the span, the rule and the kind of each.
+/// The items of a grammar file: the span, the rule and the kind of each, and the rules that are left out as spacing.
 #[derive(Clone, Copy)]
 pub(crate) struct Items<'a> {
     pub(crate) spans: &'a [Span],
     pub(crate) rules: &'a [u32],
     pub(crate) kinds: &'a [ItemKind],
+    pub(crate) spacing: &'a [bool],
 }
 
-/// Returns the items of the furthest failure. The parts of rules that fail at once are left out. Another class or dot is
-/// named after its rule if the rule stands for it.
+/// Returns the items of the furthest failure. Items in spacing and the parts of rules that fail at once are left out.
+/// Another class or dot is named after its rule if the rule stands for it.
 pub(crate) fn items_of_failure(
     alloc: Global,
     items: &Items<'_>,
@@ -87,15 +91,53 @@ fn item_wording(items: &Items<'_>, rests: &[Rest], parts: &Parts, number: u32) -
     requires { (item : ℕ) → has_part parts.now item ≡ is_part rests.now (length items.now.spans.now) item }
     ensures { result ≡ item_wording (facts_in items.now rests.now) number }
 {
+    let rule = items.rules.get(number as usize).copied();
+    if is_in_spacing(items.spacing, rule) {
+        return Wording::LeftOut;
+    }
     if parts.contains(number) {
         return Wording::LeftOut;
     }
-    let rule = items.rules.get(number as usize).copied();
     if is_class_or_dot(items.kinds, number) && is_named_after(rests, rule, number) {
         Wording::RuleName
     } else {
         Wording::Spelling
     }
+}
+
+// Returns whether the rule of an item is known and is left out as spacing.
+fn is_in_spacing(spacing: &[bool], rule: Option<u32>) -> bool
+    ensures { result ≡ is_in_spacing spacing.now rule }
+{
+    match rule {
+        Some(rule) => is_flagged(spacing, rule),
+        None => false,
+    }
+}
+
+/// Returns whether the end of the text is expected, or one of the items that a message looks at is in no rule that is
+/// spacing.
+pub(crate) fn is_more_expected(spacing: &[bool], rules: &[u32], outcome: &Outcome) -> bool
+    ensures { result ≡ is_more_expected spacing.now rules.now outcome.now }
+{
+    is_end_expected(outcome)
+        || has_other_items(spacing, rules, first_numbers(&outcome.expected, MAX_ITEMS))
+}
+
+// Returns whether one of these items is in no rule that is spacing.
+fn has_other_items(spacing: &[bool], rules: &[u32], items: &[u32]) -> bool
+    ensures { result ≡ list_any (λ item. not (is_in_spacing spacing.now (slice_get rules.now item))) items.now }
+{
+    items
+        .iter()
+        .any(|item| !is_item_in_spacing(spacing, rules, *item))
+}
+
+// Returns whether the rule of an item is left out as spacing, given the rules of all items.
+fn is_item_in_spacing(spacing: &[bool], rules: &[u32], item: u32) -> bool
+    ensures { result ≡ is_in_spacing spacing.now (slice_get rules.now item) }
+{
+    is_in_spacing(spacing, rules.get(item as usize).copied())
 }
 
 // Returns whether the rule of an item is known and stands for it.

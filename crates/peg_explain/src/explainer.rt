@@ -21,14 +21,16 @@ ghost use Rattle.peg_explain.specs.Explanations.{AreRestsBy, ExplainingAnswersWi
 ghost use Rattle.peg_explain.specs.Explanations.{ExplainingTakesMoreSteps};
 ghost use Rattle.peg_explain.specs.Explanations.{HasMismatch, IsExplanation, IsMismatchIn, IsMismatchMessage, ItemFacts};
 ghost use Rattle.peg_explain.specs.Explanations.{defined_extent, expected_items, fact_of, facts_by_blame};
-ghost use Rattle.peg_explain.specs.Explanations.{in_file_order, is_before, message_item_of, note_text, rule_item, rule_name};
-ghost use Rattle.peg_explain.specs.Explanations.{shown_item, worded_item};
+ghost use Rattle.peg_explain.specs.Explanations.{in_file_order, is_before, left_out_spacing, message_item_of, note_text};
+ghost use Rattle.peg_explain.specs.Explanations.{rule_item, rule_name, shown_item, worded_item};
 ghost use Rattle.peg_explain.specs.Names.{outermost_rules};
 ghost use Rattle.peg_explain.specs.Namings.{AreItemsFor};
 ghost use Rattle.peg_explain.specs.Reports.{are_items_expected, is_whole_match, named_position};
 
 use crate::blames::{Blames, compile_blames};
-use crate::expected::{Items, items_of_failure, spans_of_terminals, unnamed_items};
+use crate::expected::{
+    Items, is_more_expected, items_of_failure, spans_of_terminals, unnamed_items,
+};
 use crate::mismatch::{Analysis, ExpectedItem, Mismatch, Wording};
 use crate::names::{Naming, Rest, outermost_rules};
 use crate::outcomes::{are_items_expected, is_end_expected, is_whole_match, named_position};
@@ -38,6 +40,7 @@ use peg_bytes::Span;
 use peg_grammar::Grammar;
 use peg_messages::{Failure, Item};
 use peg_parser::{Answer, ParseFault, ParseOptions, Parser};
+use peg_spacing::spacing_rules;
 use peg_tree::{Outcome, RuleSet};
 use std::alloc::{AllocError, Global};
 
@@ -102,7 +105,7 @@ impl<'a> Explainer<'a> {
     /// The message names the furthest failure outside predicates: the greatest offset where an item failed, and the
     /// items that failed there. An item is a terminal or a predicate outside predicates; it fails at its own start. The
     /// end of the text is expected, too, if the match ended at that offset, and alone if it ended after it. A rule that
-    /// is called at that offset and fails at once stands for its items.
+    /// is called at that offset and fails at once stands for its items. Spacing is left out if more is expected.
     ///
     /// The errors are those of `Parser::parse`. The steps are those of the diagnostic grammar, if it is within the
     /// limits. Of many items the first 65,536 are looked at. A text that doesn't match is parsed again if the style uses
@@ -226,17 +229,41 @@ impl<'a> Explainer<'a> {
         if is_whole_match(outcome, text.len()) || !are_items_expected(outcome) {
             return Ok(nothing_expected(alloc));
         }
-        let rests = self.rests_for(alloc, blames, text, options, answer)?;
+        let spacing = self.left_out_spacing(alloc, blames, outcome)?;
+        let rests = self.rests_for(alloc, blames, &spacing, text, options, answer)?;
         let rules = outermost_rules(alloc, &rests)?;
-        let items = items_by_blame(alloc, blames, &rests, outcome)?;
+        let items = items_by_blame(alloc, blames, &spacing, &rests, outcome)?;
         Ok(Expected { items, rules })
     }
 
-    // Returns the rests of the text by which the message names rules.
+    // Returns whether the message leaves each rule out, by number. It leaves out spacing, if the style uses names and
+    // more is expected.
+    fn left_out_spacing(
+        &self,
+        alloc: Global,
+        blames: &BlameParser,
+        outcome: &Outcome,
+    ) -> Result<Vec<bool>, AllocError>
+        ensures { (rules : List Rule) → IsBlameParserOf rules blames.now → parser_rules self.now.parser.now ≡ rules
+            → IfOk result (λ spacing. spacing.items ≡ left_out_spacing rules self.now.style outcome.now) }
+    {
+        if !self.style.uses_names {
+            return Ok(Vec::new(alloc));
+        }
+        let spacing = spacing_rules(alloc, self.parser.grammar())?;
+        if is_more_expected(&spacing, blames.item_rules(), outcome) {
+            Ok(spacing)
+        } else {
+            Ok(Vec::new(alloc))
+        }
+    }
+
+    // Returns the rests of the text by which the message names rules, given those that it leaves out.
     fn rests_for(
         &self,
         alloc: Global,
         blames: &BlameParser,
+        spacing: &[bool],
         text: &[u8],
         options: &ParseOptions<'_>,
         answer: &Answer,
@@ -246,7 +273,7 @@ impl<'a> Explainer<'a> {
         ensures rests { (rules : List Rule) (start : List ℕ) (blame : Record) → IsBlameParserOf rules blames.now
             → parser_rules self.now.parser.now ≡ rules
             → start_name rules (start_named options.now) ≡ Some start → StartHasBlame rules text.now start blame
-            → IfOk result (λ rests. AreRestsBy self.now.style.uses_names rules text.now start blame.calls
+            → IfOk result (λ rests. AreRestsBy self.now.style.uses_names rules spacing.now text.now start blame.calls
             (named_position answer.now.outcome.result answer.now.outcome.far) rests.items) }
         ensures few { IfOk result (λ rests. length rests.items ≤ 64) }
         ensures no_start { (rules : List Rule) → IsBlameParserOf rules blames.now
@@ -270,6 +297,7 @@ impl<'a> Explainer<'a> {
             blames,
             grammar,
             start: start_of(grammar, options),
+            spacing,
             called: &called,
             rest: &text[at as usize..],
             memo: options.memo,
@@ -407,18 +435,20 @@ fn nothing_expected(alloc: Global) -> Expected
 fn items_by_blame(
     alloc: Global,
     blames: &BlameParser,
+    spacing: &[bool],
     rests: &[Rest],
     outcome: &Outcome,
 ) -> Result<Vec<ExpectedItem>, AllocError>
     requires { true ≡ are_items_expected outcome.now.result outcome.now.far }
     ensures items { IfOk result (λ items. (rules : List Rule) → IsBlameParserOf rules blames.now
-        → map fact_of items.items ≡ expected_items (facts_by_blame rules rests.now) outcome.now) }
+        → map fact_of items.items ≡ expected_items (facts_by_blame rules spacing.now rests.now) outcome.now) }
     ensures few { IfOk result (λ items. length items.items ≤ 65536) }
 {
     let items = Items {
         spans: blames.items(),
         rules: blames.item_rules(),
         kinds: blames.item_kinds(),
+        spacing,
     };
     items_of_failure(alloc, &items, rests, outcome)
 }

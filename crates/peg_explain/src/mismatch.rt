@@ -9,7 +9,8 @@ pub struct Mismatch {
     /// The items that are expected there, in ascending order. Of many items these are the first 65,536.
     pub expected: Vec<ExpectedItem>,
     /// The rules that a message names for all items that are a part of them, by number, in ascending order. A rule is
-    /// named if it is called at the offset and fails there at once, unless it is the start or inside another such rule.
+    /// named if it is called at the offset and fails there at once, unless it is the start, inside another such rule or
+    /// left out as spacing.
     pub rules: Vec<u32>,
     /// Whether the end of the text is expected there, too.
     pub is_end_expected: bool,
@@ -44,6 +45,6 @@ pub enum Wording {
     Spelling,
     /// As the name of its rule.
     RuleName,
-    /// Not at all, since it is a part of a rule that the message names.
+    /// Not at all, since it is a part of a rule that the message names, or of spacing, and more is expected.
     LeftOut,
 }

@@ -8,6 +8,7 @@ ghost use Rattle.peg_grammar.specs.Limits.{max_text_bytes};
 ghost use Rattle.peg_grammar.specs.Written.{form_of};
 ghost use Rattle.peg_semantics.specs.Record.{RuleCall};
 ghost use Rattle.peg_semantics.specs.Rules.{Rule};
+ghost use Rattle.peg_spacing.specs.Spacing.{has_flag};
 ghost use Rattle.peg_tree.specs.Selected.{has_rule};
 ghost use Rattle.peg_explain.specs.Names.{AreRests, IsRest, can_be_named, has_failed, is_any, is_end, is_inside};
 ghost use Rattle.peg_explain.specs.Names.{outermost_rules, rules_called_at, stands_for};
@@ -112,6 +113,8 @@ pub(crate) struct Naming<'a> {
     pub(crate) grammar: &'a Grammar,
     /// The name of the start rule.
     pub(crate) start: &'a str,
+    /// Whether each rule is left out as spacing, by number.
+    pub(crate) spacing: &'a [bool],
     /// The rules that are called at the position.
     pub(crate) called: &'a RuleSet,
     /// The text from the position on.
@@ -125,7 +128,7 @@ impl Naming<'_> {
     pub(crate) fn rests(&self, alloc: Global) -> Result<Vec<Rest>, ParseFault>
         ensures rests { (rules : List Rule) (text start : List ℕ) (calls : List RuleCall) (at : ℕ)
             → IsNamingAt rules text start calls at self.now
-            → IfOk result (λ rests. AreRests rules text start calls at rests.items) }
+            → IfOk result (λ rests. AreRests rules self.now.spacing.now text start calls at rests.items) }
         ensures few { IfOk result (λ rests. length rests.items ≤ 64) }
         ensures memory { (rules : List Rule) → IsBlameParserOf rules self.now.blames.now
             → rules_in self.now.grammar.now ≡ rules → length self.now.rest.now ≤ max_text_bytes
@@ -139,7 +142,7 @@ impl Naming<'_> {
     fn named_rules(&self, alloc: Global) -> Result<Vec<u32>, AllocError>
         ensures rules { (rules : List Rule) (text start : List ℕ) (calls : List RuleCall) (at : ℕ)
             → IsNamingAt rules text start calls at self.now
-            → IfOk result (λ list. list.items ≡ rules_called_at rules start calls at) }
+            → IfOk result (λ list. list.items ≡ rules_called_at rules self.now.spacing.now start calls at) }
         ensures within { IfOk result (λ list. All (λ rule. rule < length (rules_in self.now.grammar.now)) list.items) }
     {
         let mut list = Vec::new(alloc);
@@ -155,17 +158,20 @@ impl Naming<'_> {
     fn is_candidate(&self, rule: u32) -> bool
         requires { rule < length (rules_in self.now.grammar.now) }
         ensures { result ≡ (has_rule self.now.called.now rule
-            && can_be_named (rules_in self.now.grammar.now) self.now.start.now rule) }
+            && can_be_named (rules_in self.now.grammar.now) self.now.spacing.now self.now.start.now rule) }
     {
         self.called.contains(rule) && self.can_be_named(rule)
     }
 
-    // Returns whether a rule is neither the start nor the end of the text.
+    // Returns whether a rule is neither the start nor the end of the text, and isn't left out as spacing.
     fn can_be_named(&self, rule: u32) -> bool
         requires { rule < length (rules_in self.now.grammar.now) }
-        ensures { result ≡ can_be_named (rules_in self.now.grammar.now) self.now.start.now rule }
+        ensures { result
+            ≡ can_be_named (rules_in self.now.grammar.now) self.now.spacing.now self.now.start.now rule }
     {
-        self.grammar.rule_name(rule) != self.start && !is_end(self.grammar.body(rule))
+        self.grammar.rule_name(rule) != self.start
+            && !is_end(self.grammar.body(rule))
+            && !is_flagged(self.spacing, rule)
     }
 
     // Parses the rest of the text from each of these rules.
@@ -209,6 +215,16 @@ impl Naming<'_> {
             outcome: answer.outcome,
             called,
         })
+    }
+}
+
+/// Returns the flag of the rule with a number, or false if there is no such rule.
+pub(crate) fn is_flagged(flags: &[bool], rule: u32) -> bool
+    ensures { result ≡ has_flag flags.now rule }
+{
+    match flags.get(rule as usize) {
+        Some(flag) => *flag,
+        None => false,
     }
 }
 

@@ -1,9 +1,9 @@
-use Rattle.std.proofs.Common.{◌≡◌, ◌∙◌, ℕ, ◌+◌, ◌++◌, ◌∷◌, [], List, ap, drop, map, refl, sym, take}
+use Rattle.std.proofs.Common.{◌∙◌, ℕ, ◌+◌, ◌++◌, ◌∷◌, [], List, ap, drop, map, sym, take}
 use Rattle.std.proofs.lemmas.List.{map-append}
 use Rattle.std.specs.List.{prefix_len}
 use Rattle.peg_parser.specs.Parser.{parser_rules}
 use Rattle.peg_explain.specs.Explanations.{is_before, message_item_of, rule_item, shown_item}
-use Rattle.peg_explain.proofs.FileOrderLemmas.{all-shown, one-shown, remaining}
+use Rattle.peg_explain.proofs.FileOrderLemmas.{one-shown, remaining}
 use Rattle.peg_explain.proofs.explainer.Explainer.message_items.Goals as goal
 
 pub expected-preserved : goal.expected-preserved

@@ -16,7 +16,7 @@ use Rattle.peg_semantics.specs.Terminals.{extents_of_terminals}
 use Rattle.peg_explain.specs.Expected.{expected_spans, unnamed_fact}
 use Rattle.peg_explain.specs.Explainers.{IsBlameOf}
 use Rattle.peg_explain.specs.Explanations.{HasMismatch, HasNoBlameParser, HasStepsWithin, expected_items, fact_of}
-use Rattle.peg_explain.specs.Explanations.{facts_by_blame, facts_by_tests}
+use Rattle.peg_explain.specs.Explanations.{facts_by_blame, facts_by_tests, left_out_spacing}
 use Rattle.peg_explain.specs.Namings.{AreItemsFor}
 use Rattle.peg_explain.proofs.ExpectedLemmas.{unnamed-items}
 use Rattle.peg_explain.proofs.ExplanationLemmas.{blame-explains, steps-within, tests-explain}
@@ -37,7 +37,7 @@ returns-in_ok-expected-in-Some-clause-mismatch c file rules of_explainer =
     expected.rules.items = c.in_ok-expected-in-Some.ensures.items rules start blames of_explainer.has_parser named is in (
       stated.0,
       stated.1,
-      c.mismatch_in.ensures.mismatch (facts_by_blame rules stated.0) refl stated.2 stated.3,
+      c.mismatch_in.ensures.mismatch (facts_by_blame rules (left_out_spacing rules style outcome) stated.0) refl stated.2 stated.3,
     ))
 
 pub returns-in_ok-items-in-None-clause-mismatch : goal.returns-in_ok-items-in-None-clause-mismatch

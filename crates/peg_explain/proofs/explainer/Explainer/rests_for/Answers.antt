@@ -23,7 +23,7 @@ returns-clause-rests c rules start blame blames same named is_blame =
     let at = c.named_position-at.result in
     let grammar : rules_in c.grammar-grammar.result.now ≡ rules = c.grammar-grammar.ensures ∙ same in
     IfOk-weaker c.rests.result _ _
-    (λ rests are. rests-by rules text start blame.calls c.args.self.now.style.uses_names at _ rests.items
+    (λ rests are. rests-by rules c.args.spacing.now text start blame.calls c.args.self.now.style.uses_names at _ rests.items
     c.if-not-self.false c.named_position-at.ensures.named are)
     (c.rests.ensures.rests rules text start blame.calls at (record {
       blames = blames;

@@ -15,7 +15,7 @@ each-preserved c =
     let rules = rules_in naming.grammar.now in
     let rule = c.each.rule in
     let old = c.each.list.items in
-    let test : ℕ → Bool = λ rule. has_rule naming.called.now rule && can_be_named rules naming.start.now rule in
+    let test : ℕ → Bool = λ rule. has_rule naming.called.now rule && can_be_named rules naming.spacing.now naming.start.now rule in
     elim c.if-is_candidate.branch [
       | then-is_candidate+in_ok-push w ↦
           let added : c.if-is_candidate.list.items ≡ old ++ rule ∷ [] =
@@ -40,5 +40,7 @@ pub returns-clause-rules : goal.returns-clause-rules
 returns-clause-rules c rules text start calls at is =
     let count : c.each.rule ≡ length rules =
     omega (arith, c.each-test.false, c.each.auto.rule-end, c.rules-rule-end.ensures.count, ap length is.grammar) in
+    let spacing = c.args.self.now.spacing.now in
     c.each.invariant.listed
-    ∙ (λ i. filter (λ rule. is.called rule i && can_be_named (is.grammar i) (is.from i) rule) (range_with_len 0 (count i)))
+    ∙ (λ i. filter (λ rule. is.called rule i && can_be_named (is.grammar i) spacing (is.from i) rule)
+    (range_with_len 0 (count i)))

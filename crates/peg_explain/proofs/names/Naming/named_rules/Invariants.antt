@@ -10,7 +10,7 @@ abbrev pub invariant-each : goal.invariant-each
 invariant-each l = record {
   listed : l.list.items
       ≡ filter (λ rule. has_rule l.self.called.now rule
-      && can_be_named (rules_in l.self.grammar.now) l.self.start.now rule)
+      && can_be_named (rules_in l.self.grammar.now) l.self.spacing.now l.self.start.now rule)
       (range_with_len 0 l.rule);
   within : All (λ rule. rule < length (rules_in l.self.grammar.now)) l.list.items;
 }

@@ -1,4 +1,4 @@
-use Rattle.std.proofs.Common.{◌∙◌, ◌&&◌, ◌||◌, Bool, ap, ℕ}
+use Rattle.std.proofs.Common.{◌∙◌, ◌&&◌, ◌||◌}
 use Rattle.std.specs.Prelude.{nat_lt}
 use Rattle.peg_explain.specs.Names.{has_failed, is_expected_by}
 use Rattle.peg_explain.proofs.PartLemmas.{part-next}
