@@ -1,9 +1,9 @@
 #!/usr/bin/env python3
 """Fails each allocation of runs of the built program in turn. Each run must end with status 5, print nothing and report
 `pegtool: out of memory` on standard error, or print the same line with the same status as with enough memory. A run of
-`explain` with status 5 may have printed the whole messages of its first texts. The argument is the program, by default
-the one that `make run` builds. Needs a C compiler for the library that fails allocations. tests/oom/README.md lists the
-calls that these runs reach."""
+`explain` with status 5 may have printed the whole messages of its first texts, and one with `--lines` the lines of its
+first records. The argument is the program, by default the one that `make run` builds. Needs a C compiler for the
+library that fails allocations. tests/oom/README.md lists the calls that these runs reach."""
 import concurrent.futures
 import os
 import pathlib
@@ -58,6 +58,7 @@ FILES = {
     "words.peg": b"Query <- 'SELECT ' Name ' FROM ' Name\nName <- !Word [a-z]+ / !Word [A-Z]+\nWord <- 'FROM' ![A-Z]\n",
     "words.txt": b"SELECT FROM b",
     "empty.txt": b"",
+    "records.txt": b"aab\n\nab\r\n" + b"a" * 70 + b"b\naab",
 }
 REFUSED = ["cycle", "loop", "plus", "star", "twice", "missing", "open", "escape", "count", "unclosed", "none", "nested",
            "large", "long"]
@@ -89,6 +90,11 @@ COMMANDS = [
     "parse chain.peg chain.txt --start T",
     "parse repeats.peg repeats.txt --start N",
     "parse cycle.peg chain.txt",
+    "parse chain.peg --lines records.txt chain.txt records.txt",
+    "parse chain.peg --lines records.txt --crlf --rows --failed --all",
+    "parse chain.peg --lines records.txt --null --show S --text",
+    "parse chain.peg --lines records.txt --start T",
+    "parse cycle.peg --lines",
     *(f"check {name}.peg" for name in ["chain", "counts", "repeats", *REFUSED]),
     *(f"{command} {name}.peg" for command in ["code", "table"] for name in ["chain", "counts", "repeats", "open", "missing"]),
     *(f"lint {name}.peg" for name in ["chain", "warned", "habits", "open", "cycle"]),
@@ -135,10 +141,12 @@ class Case:
         self.arguments = [names.get(word, word) for word in label.split()]
 
     def may_print(self, printed: bytes, wanted: bytes) -> bool:
-        """Whether a run that is out of memory may print this: nothing, or for `explain` the messages of the first texts.
-        A message ends with the line of its caret."""
-        ends = [end.end() for end in re.finditer(rb"^ *\^\n", wanted, re.MULTILINE)]
-        return printed == b"" or (self.label.startswith("explain") and printed in [wanted[:end] for end in ends])
+        """Whether a run that is out of memory may print this: nothing, for `explain` the messages of the first texts,
+        and with `--lines` the lines of the first records. A message of `explain` ends with the line of its caret."""
+        last_line = rb"^ *\^\n" if self.label.startswith("explain") else rb"^.*\n"
+        ends = [end.end() for end in re.finditer(last_line, wanted, re.MULTILINE)]
+        is_early = self.label.startswith("explain") or "--lines" in self.label
+        return printed == b"" or (is_early and printed in [wanted[:end] for end in ends])
 
     def judge(self, program: str, library: str) -> list[str]:
         """Fails each allocation in turn. Returns what is wrong, and a last line with the number of allocations."""

@@ -8,8 +8,8 @@ use Rattle.peg_io.specs.NamedFile.{NamedFile}
 use Rattle.peg_messages.specs.FileNames.{shown_name}
 use Rattle.peg_tool.specs.Exits.{IsDeviceExit, IsExitAmong, IsExitFor, IsExitNaming, IsExitOfCause, IsExitOfResult, IsFileExit}
 use Rattle.peg_tool.specs.Exits.{exit_fault, report_exit}
-use Rattle.peg_tool.specs.Faults.{IsFaultAmong, IsFaultAt, IsKind, NamesCause, plain_result, standard_input, stream_name}
-use Rattle.peg_tool.specs.Requests.{ToolRequest, InputRequest, HelpRequest, FileRequest, FilesRequest, CoverRequest, ExplainRequest, TestRequest}
+use Rattle.peg_tool.specs.Faults.{IsFaultAmong, IsFaultAt, IsKind, NamesCause, plain_result, record_streams, standard_input, stream_name}
+use Rattle.peg_tool.specs.Requests.{ToolRequest, InputRequest, HelpRequest, FileRequest, FilesRequest, CoverRequest, ExplainRequest, TestRequest, RecordsRequest}
 use Rattle.peg_tool.specs.declared.exit.Exit.{Exit}
 use Rattle.peg_tool.specs.declared.exit.Exit.TheVariants.{Done, Reported, Usage, Device, Fault}
 use Rattle.peg_tool.specs.declared.fault.RequestFault.{RequestFault}
@@ -150,6 +150,14 @@ exit-cause (CoverRequest start memo steps needed g texts) file_at ended exit is 
     (λ fault n. n missing) names)
 exit-cause (ExplainRequest question printing) file_at ended exit is names = tt
 exit-cause (TestRequest question) file_at ended exit is names = tt
+exit-cause (RecordsRequest task g texts end filter) file_at ended exit is names = (
+  λ missing. exit-naming ended exit (shown_name g) None is
+      (err-map ended (NamesCause (RecordsRequest task g texts end filter) file_at) (IsFaultAt (shown_name g) None)
+      (λ fault n. n.0 missing) names),
+  λ readable. exit-among ended exit (record_streams texts) is
+      (err-map ended (NamesCause (RecordsRequest task g texts end filter) file_at) (IsFaultAmong (record_streams texts))
+      (λ fault n. n.1 readable) names),
+)
 
 -- what holds of the arguments holds of the result with them
 pub if-ok : {T E : Type 0} (given : Result T E) (value : T) (P : T → Type 0) → given ≡ Ok value → P value → IfOk given P

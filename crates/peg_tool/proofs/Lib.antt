@@ -2,5 +2,6 @@ mod CoverageLemmas
 mod EndLemmas
 mod ExitLemmas
 mod ProgramLemmas
+mod RecordsLemmas
 mod ReportLemmas
 mod TestedLemmas

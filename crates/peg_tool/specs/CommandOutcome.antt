@@ -1,15 +1,26 @@
 -- How a request ends, and the exit status of the program for it.
 use Rattle.std.specs.Prelude.{◌≡◌, ◌⊎◌, ℕ, List, Option}
 use Rattle.std.specs.Prelude.{Result, Ok, Err, IfSome}
+use Rattle.std.specs.List.{flat_map}
 use Rattle.std.specs.Io.KnownBytes.{Appends, Keeps}
 use Rattle.peg_io.specs.declared.opener.OpenFault.{OpenFault}
 use Rattle.peg_io.specs.declared.opener.OpenFault.TheVariants as opening
 use Rattle.peg_io.specs.NamedFile.{NamedFile, bytes_of}
 use Rattle.peg_tool.specs.CoverageOutcome.{CoverageOutcome}
 use Rattle.peg_tool.specs.Explanations.{ExplanationOutcome}
+use Rattle.peg_records.specs.Records.{records}
+use Rattle.peg_records.specs.declared.end.RecordEnd.{RecordEnd}
+use Rattle.peg_record_files.specs.RecordReplies.{WritesReplies}
+use Rattle.peg_record_files.specs.Streams.{AreStreams}
+use Rattle.peg_record_files.specs.declared.fault.RecordsFault.{RecordsFault}
+use Rattle.peg_record_files.specs.declared.fault.RecordsFault.TheVariants as reading
+use Rattle.peg_record_files.specs.declared.filter.RecordFilter.{RecordFilter}
+use Rattle.peg_record_files.specs.declared.outcome.RecordOutcome.{RecordOutcome}
+use Rattle.peg_replies.specs.RecordReplies.{HasParse, IsRecordReply, RefusesRecords, outcome_status}
 use Rattle.peg_replies.specs.Replies.{IsPrinted, IsPrintedJoined}
+use Rattle.peg_replies.specs.Task.{ToolTask}
 use Rattle.peg_tool.specs.TestOutcome.{TestOutcome}
-use Rattle.peg_tool.specs.Requests.{ToolRequest, InputRequest, HelpRequest, FileRequest, FilesRequest, CoverRequest, ExplainRequest, TestRequest}
+use Rattle.peg_tool.specs.Requests.{ToolRequest, InputRequest, HelpRequest, FileRequest, FilesRequest, CoverRequest, ExplainRequest, TestRequest, RecordsRequest}
 use Rattle.peg_replies.specs.Written.{PrintsInPart}
 use Rattle.peg_tool.specs.declared.report.Findings.{Findings}
 use Rattle.peg_tool.specs.declared.program.ProgramFault.{ProgramFault}
@@ -28,6 +39,34 @@ WritesOrFails IsRight old new (Err File) = Keeps old new ⊎ PrintsInPart IsRigh
 -- the help text, with its exit status
 abbrev pub IsHelp : (text : List ℕ) → (line : List ℕ) → (status : ℕ) → Type 0
 IsHelp text line status = (line ≡ text) × (status ≡ 0)
+
+-- ---- records
+
+-- the result of a request for that of its records: the exit status is that of the worst record
+abbrev pub records_result : Result RecordOutcome RecordsFault → Result ℕ ProgramFault
+records_result (Ok worst) = Ok (outcome_status worst)
+records_result (Err (reading.Text name kind)) = Err File
+records_result (Err reading.Input) = Err File
+records_result (Err reading.Output) = Err File
+records_result (Err reading.Memory) = Err Memory
+
+-- what is written for records by a grammar file: their lines in order, or with a fault a part of them
+abbrev pub WritesRecords : ToolTask → RecordFilter → (file : List ℕ) → (texts : List (List ℕ))
+    → (old new : Option (List ℕ)) → Result ℕ ProgramFault → Type 0
+WritesRecords task filter file texts old new result = (ended : Result RecordOutcome RecordsFault)
+    × WritesReplies (IsRecordReply file task) filter texts old new ended × (result ≡ records_result ended)
+
+-- How a task on a grammar file and the records of texts ends. If the file is refused, or a name of the task is unknown,
+-- a line says so, and no record is read. It promises nothing of the records if the bytes of a text aren't specified.
+abbrev pub RecordsOutcome : ToolTask → (file : List ℕ) → (texts : List (List ℕ)) → RecordEnd → RecordFilter
+    → (file_at : List ℕ → NamedFile) → (input : Option (List ℕ)) → (old new : Option (List ℕ)) → Result ℕ ProgramFault
+    → Type 0
+RecordsOutcome task file texts end filter file_at input old new result =
+    WritesOrFails (RefusesRecords task file) old new result
+    ⊎ (HasParse task file × ((streams : List (List ℕ)) → AreStreams file_at input texts streams
+    → WritesRecords task filter file (flat_map (records end) streams) old new result))
+
+-- ---- requests
 
 -- what is reported of an exit status, and of an explanation, a test or a coverage
 abbrev pub done_result : Result ℕ ProgramFault → Result Report ProgramFault
@@ -61,6 +100,9 @@ RequestOutcome (ExplainRequest question printing) file_at input old new ended =
     × (ended ≡ found_result found)
 RequestOutcome (TestRequest question) file_at input old new ended =
     (found : Result Findings ProgramFault) × TestOutcome question file_at old new found × (ended ≡ found_result found)
+RequestOutcome (RecordsRequest task g texts end filter) file_at input old new ended = (done : Result ℕ ProgramFault)
+    × IfSome (bytes_of (file_at g)) (λ file. RecordsOutcome task file texts end filter file_at input old new done)
+    × (ended ≡ done_result done)
 
 -- the exit status of a report
 abbrev pub report_status : Report → ℕ

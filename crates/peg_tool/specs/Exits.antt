@@ -10,8 +10,8 @@ use Rattle.peg_messages.specs.FileNames.{shown_name}
 use Rattle.peg_cli.specs.declared.words.WordsFault.{WordsFault}
 use Rattle.peg_cli.specs.declared.words.WordsFault.TheVariants as words
 use Rattle.peg_tool.specs.CommandOutcome.{RequestOutcome}
-use Rattle.peg_tool.specs.Faults.{IsKind, device_message, standard_input, stream_name}
-use Rattle.peg_tool.specs.Requests.{ToolRequest, InputRequest, HelpRequest, FileRequest, FilesRequest, CoverRequest, ExplainRequest, TestRequest}
+use Rattle.peg_tool.specs.Faults.{IsKind, device_message, record_streams, standard_input, stream_name}
+use Rattle.peg_tool.specs.Requests.{ToolRequest, InputRequest, HelpRequest, FileRequest, FilesRequest, CoverRequest, ExplainRequest, TestRequest, RecordsRequest}
 use Rattle.peg_tool.specs.declared.exit.Exit.{Exit}
 use Rattle.peg_tool.specs.declared.exit.Exit.TheVariants.{Done, Reported, Usage, Device, Fault}
 use Rattle.peg_tool.specs.declared.fault.RequestFault.{RequestFault}
@@ -65,8 +65,15 @@ abbrev pub IsExitNaming : (name : List ℕ) → Exit → Type 0
 IsExitNaming name (Device text) = (kind : ErrorKind) × (string_bytes text ≡ device_message name kind)
 IsExitNaming name other = Unit {0}
 
+-- an exit with a second line names one of these files or streams
+abbrev pub IsExitAmong : (names : List (List ℕ)) → Exit → Type 0
+IsExitAmong names (Device text) = (name : List ℕ) × (kind : ErrorKind) × Contains names name
+    × (string_bytes text ≡ device_message name kind)
+IsExitAmong names other = Unit {0}
+
 -- Which stream a second line names if the output has not failed: a grammar file that is missing; the text if the grammar
--- file is readable, and the grammar file if the text is. An explanation or a test has no such line.
+-- file is readable, and the grammar file if the text is. For records it is one of the texts, or the input, if the
+-- grammar file is readable. An explanation or a test has no such line.
 abbrev pub IsExitOfCause : ToolRequest → (file_at : List ℕ → NamedFile) → Exit → Type 0
 IsExitOfCause InputRequest file_at exit = IsExitNaming standard_input exit
 IsExitOfCause (HelpRequest text) file_at exit = Unit {0}
@@ -78,12 +85,9 @@ IsExitOfCause (CoverRequest start memo steps needed g texts) file_at exit =
     IsMissing (file_at g) → IsExitNaming (shown_name g) exit
 IsExitOfCause (ExplainRequest question printing) file_at exit = Unit {0}
 IsExitOfCause (TestRequest question) file_at exit = Unit {0}
-
--- an exit with a second line names one of these files or streams
-abbrev pub IsExitAmong : (names : List (List ℕ)) → Exit → Type 0
-IsExitAmong names (Device text) = (name : List ℕ) × (kind : ErrorKind) × Contains names name
-    × (string_bytes text ≡ device_message name kind)
-IsExitAmong names other = Unit {0}
+IsExitOfCause (RecordsRequest task g texts end filter) file_at exit =
+    (IsMissing (file_at g) → IsExitNaming (shown_name g) exit)
+    × (is_readable (file_at g) ≡ true → IsExitAmong (record_streams texts) exit)
 
 -- ---- exits of the code's faults
 

@@ -39,7 +39,11 @@ pub use Rattle.peg_json.specs.ProfileText
 pub use Rattle.peg_json.specs.Reply
 pub use Rattle.peg_json.specs.Statuses
 pub use Rattle.peg_json.specs.TreeForms
+pub use Rattle.peg_records.specs.Records
+pub use Rattle.peg_record_files.specs.RecordReplies
+pub use Rattle.peg_record_files.specs.Streams
 pub use Rattle.peg_replies.specs.PrintedNodes
+pub use Rattle.peg_replies.specs.RecordReplies as ParsedRecords
 pub use Rattle.peg_replies.specs.Replies
 pub use Rattle.peg_replies.specs.Task
 pub mod CommandOutcome
@@ -48,6 +52,7 @@ pub mod CoverageWritten
 pub mod Exits
 pub mod Explanations
 pub mod Faults
+pub mod RecordFaults
 pub mod RequestContract
 pub mod Requests
 pub mod TestOutcome

@@ -2,7 +2,7 @@
 use Rattle.std.specs.Prelude.{◌≡◌, ◌⊎◌, ◌↔◌, ℕ, Bool, true, IsSome, List, Option, Some}
 use Rattle.std.specs.Io.KnownBytes.{Keeps}
 use Rattle.peg_io.specs.NamedFile.{NamedFile}
-use Rattle.peg_tool.specs.Requests.{ToolRequest, HasReadableFiles, IsExplainRequest, IsTestRequest, LacksGrammar, LacksText, ReadsInput}
+use Rattle.peg_tool.specs.Requests.{ToolRequest, EndsWithInput, HasReadableFiles, IsExplainRequest, IsTestRequest, LacksGrammar, LacksText, ReadsInput, WritesEarly}
 use Rattle.peg_tool.specs.declared.program.ProgramFault.{ProgramFault}
 use Rattle.peg_tool.specs.declared.program.ProgramFault.TheVariants.{File, Memory}
 
@@ -19,9 +19,11 @@ pub record EndsAs (request : ToolRequest) (file_at : List ℕ → NamedFile) (fa
       → ((fault ≡ Some File) ↔ ((input_failed ≡ true) ⊎ (output_failed ≡ true)))
   -- with other files, too, a failed output is reported
   pub write_fault : output_failed ≡ true → fault ≡ Some File
+  -- so is a failed input, unless an explanation reports it
+  pub input_fault : EndsWithInput request → input_failed ≡ true → fault ≡ Some File
   -- of an explanation, only a failed output is a file fault
   pub explain_fault : IsExplainRequest request → ((fault ≡ Some File) ↔ (output_failed ≡ true))
   -- the same of a test
   pub test_fault : IsTestRequest request → ((fault ≡ Some File) ↔ (output_failed ≡ true))
-  -- if an allocation fails nothing is written
-  pub memory : ¬ IsExplainRequest request → fault ≡ Some Memory → Keeps old new
+  -- if an allocation fails nothing is written, but by a request that writes early
+  pub memory : ¬ WritesEarly request → fault ≡ Some Memory → Keeps old new

@@ -1,5 +1,5 @@
 -- What the arguments of the program request.
-use Rattle.std.specs.Prelude.{◌≡◌, Bool, false, true, ℕ, All, List, Option, map, option_map, string_bytes}
+use Rattle.std.specs.Prelude.{◌≡◌, Bool, false, true, ℕ, All, List, [], Option, map, option_map, string_bytes}
 use Rattle.peg_explain.specs.Styles.{style_of}
 use Rattle.peg_explain_files.specs.Names.{IsInput, name_end}
 use Rattle.peg_explain_files.specs.Printings.{printing_of}
@@ -9,16 +9,21 @@ use Rattle.peg_coverage.specs.declared.text_match.RequiredMatch.{RequiredMatch}
 use Rattle.peg_coverage.specs.declared.text_match.RequiredMatch.TheVariants.{Whole, Prefix}
 use Rattle.peg_io.specs.NamedFile.{NamedFile, IsMissing, is_readable}
 use Rattle.peg_cli.specs.declared.words.Words.{Words}
-use Rattle.peg_cli.specs.declared.words.Words.TheVariants.{Joined, Help, Table, Check, Code, Lint, Profile, Coverage, Explain, Test, Parse}
+use Rattle.peg_cli.specs.declared.words.Words.TheVariants.{Joined, Help, Table, Check, Code, Lint, Profile, Coverage, Explain, Test, Parse, Records}
 use Rattle.peg_lint.specs.FileWarnings.{selection_of}
 use Rattle.peg_json.specs.TreeForms.{form_from_options}
+use Rattle.peg_records.specs.declared.end.RecordEnd.{RecordEnd}
+use Rattle.peg_records.specs.declared.end.RecordEnd.TheVariants as end
+use Rattle.peg_record_files.specs.declared.filter.RecordFilter.{RecordFilter}
+use Rattle.peg_record_files.specs.declared.filter.RecordFilter.TheVariants as filter
 use Rattle.peg_test_files.specs.TestQuestions.{TestQuestion}
 use Rattle.peg_replies.specs.PrintedNodes.{nodes_from_options}
 use Rattle.peg_replies.specs.Task.{ToolTask, TableTask, CheckTask, CodeTask, LintTask, ProfileTask, ParseTask}
 
 -- A request: the default task on a grammar file and a text from one input, a help text, a task on the grammar file with
 -- a name, a task on a grammar file and a text with two names, what the texts with some names use of a grammar file, an
--- explanation of texts, or a test of the texts in folders.
+-- explanation of texts, a test of the texts in folders, or a task on a grammar file and each record of texts with some
+-- names, or of the input without names.
 pub data ToolRequest : Type 0 where
   InputRequest : ToolRequest
   HelpRequest : (text : List ℕ) → ToolRequest
@@ -28,11 +33,25 @@ pub data ToolRequest : Type 0 where
       → (texts : List (List ℕ)) → ToolRequest
   ExplainRequest : (question : Question) → (printing : Printing) → ToolRequest
   TestRequest : (question : TestQuestion) → ToolRequest
+  RecordsRequest : (task : ToolTask) → (g : List ℕ) → (texts : List (List ℕ)) → (end : RecordEnd)
+      → (filter : RecordFilter) → ToolRequest
 
 -- how much of a text has to match: the whole text, or with `--prefix` a prefix
 abbrev pub needed_of : (prefix : Bool) → RequiredMatch
 needed_of false = Whole
 needed_of true = Prefix
+
+-- How records end: with `--null` at a zero byte, otherwise at LF. With `--crlf` a CR before LF isn't part of a record.
+abbrev pub end_of : (null crlf : Bool) → RecordEnd
+end_of true crlf = end.Zero
+end_of false true = end.CrLf
+end_of false false = end.Line
+
+-- which records have a line: with `--failed` those that don't match, with `--matched` those that do, otherwise all
+abbrev pub filter_of : (failed matched : Bool) → RecordFilter
+filter_of true matched = filter.Failed
+filter_of false true = filter.Matched
+filter_of false false = filter.All
 
 -- what the arguments request
 abbrev pub requested : Words → ToolRequest
@@ -71,6 +90,10 @@ requested (Parse g t start memo steps all rows no_tree show hide text) =
     FilesRequest (ParseTask (option_map string_bytes start) memo steps all (form_from_options rows no_tree)
     (nodes_from_options (option_map string_bytes show) (option_map string_bytes hide)) text)
     (string_bytes g) (string_bytes t)
+requested (Records g texts null crlf failed matched start memo steps all rows no_tree show hide text) =
+    RecordsRequest (ParseTask (option_map string_bytes start) memo steps all (form_from_options rows no_tree)
+    (nodes_from_options (option_map string_bytes show) (option_map string_bytes hide)) text)
+    (string_bytes g) (map string_bytes texts.items) (end_of null crlf) (filter_of failed matched)
 
 -- ---- files of a request
 
@@ -83,8 +106,10 @@ LacksGrammar (FilesRequest task g t) file_at = IsMissing (file_at g)
 LacksGrammar (CoverRequest start memo steps needed g texts) file_at = IsMissing (file_at g)
 LacksGrammar (ExplainRequest question printing) file_at = ⊥
 LacksGrammar (TestRequest question) file_at = ⊥
+LacksGrammar (RecordsRequest task g texts end filter) file_at = IsMissing (file_at g)
 
--- The text file that a request names can't be opened. For what texts use, texts are opened after the grammar is read.
+-- The text file that a request names can't be opened. For what texts use and for records, texts are opened after the
+-- grammar is read.
 abbrev pub LacksText : ToolRequest → (file_at : List ℕ → NamedFile) → Type 0
 LacksText InputRequest file_at = ⊥
 LacksText (HelpRequest text) file_at = ⊥
@@ -93,6 +118,7 @@ LacksText (FilesRequest task g t) file_at = IsMissing (file_at t)
 LacksText (CoverRequest start memo steps needed g texts) file_at = ⊥
 LacksText (ExplainRequest question printing) file_at = ⊥
 LacksText (TestRequest question) file_at = ⊥
+LacksText (RecordsRequest task g texts end filter) file_at = ⊥
 
 -- the files that a request names hold specified bytes, and reads of them don't fail
 abbrev pub HasReadableFiles : ToolRequest → (file_at : List ℕ → NamedFile) → Type 0
@@ -104,6 +130,8 @@ HasReadableFiles (CoverRequest start memo steps needed g texts) file_at =
     (is_readable (file_at g) ≡ true) × All (λ text. is_readable (file_at text) ≡ true) texts
 HasReadableFiles (ExplainRequest question printing) file_at = ⊥
 HasReadableFiles (TestRequest question) file_at = ⊥
+HasReadableFiles (RecordsRequest task g texts end filter) file_at =
+    (is_readable (file_at g) ≡ true) × All (λ text. is_readable (file_at text) ≡ true) texts
 
 -- ---- explanations and tests
 
@@ -116,6 +144,7 @@ IsExplainRequest (FilesRequest task g t) = ⊥
 IsExplainRequest (CoverRequest start memo steps needed g texts) = ⊥
 IsExplainRequest (ExplainRequest question printing) = Unit {0}
 IsExplainRequest (TestRequest question) = ⊥
+IsExplainRequest (RecordsRequest task g texts end filter) = ⊥
 
 -- whether a test of texts is requested, which does so, too
 abbrev pub IsTestRequest : ToolRequest → Type 0
@@ -126,8 +155,11 @@ IsTestRequest (FilesRequest task g t) = ⊥
 IsTestRequest (CoverRequest start memo steps needed g texts) = ⊥
 IsTestRequest (ExplainRequest question printing) = ⊥
 IsTestRequest (TestRequest question) = Unit {0}
+IsTestRequest (RecordsRequest task g texts end filter) = ⊥
 
--- whether a request is about the input
+-- ---- the input and the output
+
+-- Whether a request is about the input. Records are those of the input if no text is named.
 abbrev pub ReadsInput : ToolRequest → Type 0
 ReadsInput InputRequest = Unit {0}
 ReadsInput (HelpRequest text) = ⊥
@@ -136,3 +168,16 @@ ReadsInput (FilesRequest task g t) = ⊥
 ReadsInput (CoverRequest start memo steps needed g texts) = ⊥
 ReadsInput (ExplainRequest question printing) = IsInput question.list
 ReadsInput (TestRequest question) = ⊥
+ReadsInput (RecordsRequest task g texts end filter) = texts ≡ []
+
+-- whether a failed read of the input ends a request; an explanation reports it itself
+abbrev pub EndsWithInput : ToolRequest → Type 0
+EndsWithInput InputRequest = Unit {0}
+EndsWithInput (RecordsRequest task g texts end filter) = Unit {0}
+EndsWithInput other = ⊥
+
+-- whether a request writes before it has read all texts: messages of texts, or lines of records
+abbrev pub WritesEarly : ToolRequest → Type 0
+WritesEarly (ExplainRequest question printing) = Unit {0}
+WritesEarly (RecordsRequest task g texts end filter) = Unit {0}
+WritesEarly other = ⊥

@@ -4,9 +4,9 @@ use Rattle.peg_cli.specs.declared.words.Words.{Words}
 use Rattle.peg_cli.specs.declared.words.Words.TheVariants as words
 use Rattle.peg_explain_files.specs.Questions.{question_of}
 use Rattle.peg_parser.specs.Parser.{start_named}
-use Rattle.peg_replies.specs.Commands.{task_of}
+use Rattle.peg_replies.specs.Commands.{parse_task, task_of}
 use Rattle.peg_test_files.specs.TestQuestions as asked
-use Rattle.peg_tool.specs.Requests.{ToolRequest, InputRequest, HelpRequest, FileRequest, FilesRequest, CoverRequest, ExplainRequest, TestRequest}
+use Rattle.peg_tool.specs.Requests.{ToolRequest, InputRequest, HelpRequest, FileRequest, FilesRequest, CoverRequest, ExplainRequest, TestRequest, RecordsRequest}
 use Rattle.peg_tool.specs.declared.request.Request.{Request}
 use Rattle.peg_tool.specs.declared.request.Request.TheVariants as request
 
@@ -20,8 +20,16 @@ request_of (request.Cover g texts options needed) =
     CoverRequest (start_named options) options.memo options.steps needed g.now (map string_bytes texts.now)
 request_of (request.Explain query printing) = ExplainRequest (question_of query) printing
 request_of (request.Test query) = TestRequest (asked.question_of query)
+request_of (request.Records g parse) = RecordsRequest (parse_task parse.options parse.printing) g.now
+    (map string_bytes parse.query.texts.now) parse.query.end parse.query.filter
 
 -- the arguments are those of a parse
 abbrev pub IsParseWords : Words → Type 0
 IsParseWords (words.Parse g t start memo steps all rows no_tree show hide text) = Unit {0}
 IsParseWords other = ⊥
+
+-- the arguments are those of a parse of records
+abbrev pub IsRecordsWords : Words → Type 0
+IsRecordsWords (words.Records g texts null crlf failed matched start memo steps all rows no_tree show hide text) =
+    Unit {0}
+IsRecordsWords other = ⊥

@@ -8,7 +8,7 @@ ghost use Rattle.peg_tool.specs.Exits.{IsExitOfResult, exit_fault, exit_message,
 ghost use Rattle.peg_tool.specs.Exits.{words_exit};
 ghost use Rattle.peg_tool.specs.Faults.{standard_input, standard_output, stream_name, stream_names};
 ghost use Rattle.peg_tool.specs.RequestContract.{EndsAs};
-ghost use Rattle.peg_tool.specs.Requests.{InputRequest, requested};
+ghost use Rattle.peg_tool.specs.Requests.{EndsWithInput, requested};
 
 use crate::fault::{RequestFault, Stream, device_message};
 use crate::program::{ProgramFault, run_request};
@@ -182,7 +182,7 @@ pub fn run_program<O: Opener, I: Source, W: Sink>(
 
     // A fault of a device names what failed: standard output or standard input, or else a file of the request.
     ensures output { W.failed output.new ≡ true → IsDeviceExit standard_output (W.fault_kind output.new) result }
-    ensures input { IfOk words (λ asked. requested asked ≡ InputRequest → I.failed input.new ≡ true
+    ensures input { IfOk words (λ asked. EndsWithInput (requested asked) → I.failed input.new ≡ true
         → IsDeviceExit standard_input (I.fault_kind input.new) result) }
     ensures cause { IfOk words (λ asked. W.failed output.new ≡ false
         → IsExitOfCause (requested asked) (O.file_at files.now) result) }

@@ -6,6 +6,7 @@ mod exit;
 mod explaining;
 mod fault;
 mod program;
+mod records;
 mod report;
 mod request;
 mod testing;
@@ -23,7 +24,9 @@ pub use peg_parser::{
     Answer, FigureFault, ParseFault, ParseOptions, Parser, Refusal, read_by_figure,
 };
 pub use peg_profile::{Profile, RuleProfile};
-pub use peg_replies::{Command, Nodes, ToolFault, run_joined, run_tool};
+pub use peg_record_files::{RecordEnd, RecordFilter, RecordsQuery};
+pub use peg_replies::{Command, Nodes, ToolFault, TreePrinting, run_joined, run_tool};
 pub use peg_test_files::TestQuery;
 pub use program::{ProgramFault, run_words};
+pub use records::RecordsParse;
 pub use request::Request;

@@ -12,13 +12,14 @@ ghost use Rattle.peg_tool.specs.Faults.{IsFaultAmong, IsFaultAt, NamesCause, pla
 ghost use Rattle.peg_tool.specs.Faults.{standard_output, stream_names};
 ghost use Rattle.peg_replies.specs.Replies.{IsPrinted, IsPrintedJoined};
 ghost use Rattle.peg_tool.specs.RequestContract.{EndsAs};
-ghost use Rattle.peg_tool.specs.Requests.{InputRequest, requested};
+ghost use Rattle.peg_tool.specs.Requests.{EndsWithInput, requested};
 ghost use Rattle.peg_tool.specs.CoverageOutcome.{CoverageOutcome};
 ghost use Rattle.peg_replies.specs.Task.{HasText};
 
 use crate::covering::{coverage_reply, write_coverage};
 use crate::explaining::explain;
 use crate::fault::{RequestFault, Stream};
+use crate::records::on_records;
 use crate::report::{Findings, Report};
 use crate::request::Request;
 use crate::testing::test;
@@ -88,7 +89,8 @@ impl From<AllocError> for ProgramFault {
 /// Returns `File` if a file can't be opened or read, or if the output can't be written. Returns `Memory`, with nothing
 /// written, if an allocation fails. For an explanation of texts, a file that can't be opened or read is status 4, and
 /// the other texts are read; `run_program` names it. The messages of the texts before a failed allocation are written. For
-/// a test of texts, a file or a folder is reported in the same way, and nothing is written before the end.
+/// a test of texts, a file or a folder is reported in the same way, and nothing is written before the end. The lines of
+/// records are written as they are read, so that those of the first records are written if an allocation fails.
 /// No device may have failed before.
 pub fn run_words<O: Opener, I: Source, W: Sink>(
     alloc: Global,
@@ -132,7 +134,7 @@ pub(crate) fn run_request<'a, O: Opener, I: Source, W: Sink>(
     ensures named { IfErr result (IsFaultAmong (stream_names (requested words.now))) }
     ensures cause { W.failed output.new ≡ false → IfErr result (NamesCause (requested words.now) (O.file_at files.now)) }
     ensures output { W.failed output.new ≡ true → IfErr result (IsFaultAt standard_output (W.fault_kind output.new)) }
-    ensures input { requested words.now ≡ InputRequest → I.failed input.new ≡ true
+    ensures input { EndsWithInput (requested words.now) → I.failed input.new ≡ true
         → IfErr result (IsFaultAt standard_input (I.fault_kind input.new)) }
 {
     match Request::from_words(words) {
@@ -154,6 +156,9 @@ pub(crate) fn run_request<'a, O: Opener, I: Source, W: Sink>(
             Ok(Report::Found(explain(alloc, files, input, output, &query, printing)?))
         }
         Request::Test { query } => Ok(Report::Found(test(alloc, files, output, &query)?)),
+        Request::Records { g, parse } => {
+            Ok(Report::Done(on_records(alloc, files, input, output, g, &parse)?))
+        }
     }
 }
 

@@ -4,16 +4,19 @@ ghost use Rattle.peg_explain.specs.Styles.{style_of};
 ghost use Rattle.peg_lint.specs.FileWarnings.{selection_of};
 ghost use Rattle.peg_parser.specs.Parser.{start_named};
 ghost use Rattle.peg_replies.specs.Commands.{task_of};
-ghost use Rattle.peg_tool.specs.Requests.{CoverRequest, FileRequest, IsExplainRequest, TestRequest, needed_of, requested};
+ghost use Rattle.peg_tool.specs.Requests.{CoverRequest, FileRequest, IsExplainRequest, TestRequest, end_of, filter_of, needed_of, requested};
 ghost use Rattle.peg_replies.specs.Task.{LintTask};
-ghost use Rattle.peg_tool.specs.WordRequests.{IsParseWords, request_of};
+ghost use Rattle.peg_tool.specs.WordRequests.{IsParseWords, IsRecordsWords, request_of};
 
+use crate::records::RecordsParse;
 use peg_cli::Words;
 use peg_coverage::RequiredMatch;
 use peg_explain_files::{ItemStyle, NameEnd, Printing, Query};
+use peg_json::TreeForm;
 use peg_lint::Selection;
 use peg_parser::ParseOptions;
-use peg_replies::{Command, Nodes};
+use peg_record_files::{RecordEnd, RecordFilter, RecordsQuery};
+use peg_replies::{Command, Nodes, TreePrinting};
 use peg_test_files::TestQuery;
 
 /// What the arguments of the program request.
@@ -51,6 +54,11 @@ pub enum Request<'a> {
     /// Tests the texts in folders by a grammar file.
     Test {
         query: TestQuery<'a>,
+    },
+    /// Parses each record of texts by the grammar file with name `g`.
+    Records {
+        g: &'a str,
+        parse: RecordsParse<'a>,
     },
 }
 
@@ -103,6 +111,7 @@ impl<'a> Request<'a> {
                 request_test(g, folders, options)
             }
             Words::Parse { .. } => request_parse(words),
+            Words::Records { .. } => request_records(words),
         }
     }
 }
@@ -241,4 +250,69 @@ fn request_parse(words: &Words) -> Request<'_>
         text: *text,
     };
     Request::OnFiles { g, t, command }
+}
+
+// Requests a parse of records.
+fn request_records(words: &Words) -> Request<'_>
+    requires { IsRecordsWords words.now }
+    ensures { request_of result ≡ requested words.now }
+{
+    let Words::Records {
+        g,
+        texts,
+        null,
+        crlf,
+        failed,
+        matched,
+        start,
+        memo,
+        steps,
+        all,
+        rows,
+        no_tree,
+        show,
+        hide,
+        text,
+    } = words
+    else {
+        unreachable!()
+    };
+    let (start, memo, steps) = (start.as_deref(), *memo, *steps);
+    let parse = RecordsParse {
+        options: ParseOptions { start, memo, steps },
+        printing: TreePrinting {
+            all: *all,
+            form: TreeForm::from_options(*rows, *no_tree),
+            nodes: Nodes::from_options(show.as_deref(), hide.as_deref()),
+            with_bytes: *text,
+        },
+        query: RecordsQuery {
+            texts,
+            end: record_end(*null, *crlf),
+            filter: record_filter(*failed, *matched),
+        },
+    };
+    Request::Records { g, parse }
+}
+
+// How records end.
+fn record_end(null: bool, crlf: bool) -> RecordEnd
+    ensures { result ≡ end_of null crlf }
+{
+    match (null, crlf) {
+        (true, _) => RecordEnd::Zero,
+        (false, true) => RecordEnd::CrLf,
+        (false, false) => RecordEnd::Line,
+    }
+}
+
+// Which records have a line.
+fn record_filter(failed: bool, matched: bool) -> RecordFilter
+    ensures { result ≡ filter_of failed matched }
+{
+    match (failed, matched) {
+        (true, _) => RecordFilter::Failed,
+        (false, true) => RecordFilter::Matched,
+        (false, false) => RecordFilter::All,
+    }
 }

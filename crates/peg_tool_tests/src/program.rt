@@ -81,6 +81,10 @@ impl Opener for Shelf {
     }
 }
 
+// The line of a first record that begins with b.
+const RECORD: &str =
+    "{\"record\":1,\"consumed\":1,\"expected\":[[5,8]],\"far\":0,\"result\":\"matched\"}\n";
+
 // The arguments in a command line without quotes.
 fn args_of(alloc: Global, text: &str) -> Result<Vec<String>, AllocError> {
     let mut args = Vec::new(alloc);
@@ -124,8 +128,8 @@ fn assert_exit(
     Ok(())
 }
 
-// Files are opened in the order of the arguments, and the first fault is reported. The message of an earlier text is
-// written before the next text is opened.
+// Files are opened in the order of the arguments, and the first fault is reported. The message of an earlier text, and
+// the lines of its records, are written before the next text is opened.
 #[test]
 fn a_file_that_is_opened_without_memory_is_reported(rt: HostRuntime) -> Result<(), Fail> {
     let file = "pegtool: file fault\nnowhere: No such file or directory\n";
@@ -141,6 +145,11 @@ fn a_file_that_is_opened_without_memory_is_reported(rt: HostRuntime) -> Result<(
         ("pegtool explain vast bcd", (5, memory, "")),
         ("pegtool explain line bcd vast", (5, memory, first)),
         ("pegtool explain line vast bcd", (5, memory, "")),
+        (
+            "pegtool parse line --lines --no-tree bcd vast",
+            (5, memory, RECORD),
+        ),
+        ("pegtool parse vast --lines bcd", (5, memory, "")),
     ];
     for (text, wanted) in cases {
         assert_exit(&rt, rt.alloc(), (text, b""), wanted)?;
@@ -156,6 +165,14 @@ fn names_that_end_before_a_failed_read_are_explained(rt: HostRuntime) -> Result<
     let printed = "bcd:1:2: expected the end, found 'c'\nbcd\n ^\n";
     let wanted = (4, "pegtool: -: can't be read\n", printed);
     Ok(assert_exit(&rt, rt.alloc(), line, wanted)?)
+}
+
+// The input fails after the end of the first record and a byte of the second one.
+#[test]
+fn records_that_end_before_a_failed_read_are_parsed(rt: HostRuntime) -> Result<(), Fail> {
+    let line = ("pegtool parse line --lines --no-tree", b"b\na".as_slice());
+    let message = "pegtool: file fault\nstandard input: Unknown error\n";
+    Ok(assert_exit(&rt, rt.alloc(), line, (4, message, RECORD))?)
 }
 
 #[test]

@@ -80,3 +80,14 @@ By default there is a memo: without one the 20 levels take over a million steps.
   [6]
   $ pegtool parse g t --no-tree --steps 100000 > /dev/null
   $ pegtool parse g t --no-tree --steps 100000 --memo 4096 > /dev/null
+
+The options for records, before, between or after any number of files. With all options together the rule A takes one
+test and one return for each record, within eight steps. The record b fails, and with --matched it isn't printed.
+
+  $ printf "S <- 'x' A\nA <- 'a'\n" > g; printf 'a\0b' > null; printf 'a\r\n' > crlf
+  $ pegtool parse --lines g crlf --crlf crlf --start A --memo 7 --steps 8 --all --rows --show A --text --matched
+  {"record":1,"consumed":1,"expected":[],"far":0,"result":"matched","rows":[[1,"A",0,1,"a"]]}
+  {"record":2,"consumed":1,"expected":[],"far":0,"result":"matched","rows":[[1,"A",0,1,"a"]]}
+  $ pegtool parse g null --lines --null --start=A --no-tree --matched
+  {"record":1,"consumed":1,"expected":[],"far":0,"result":"matched"}
+  [1]

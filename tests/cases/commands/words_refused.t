@@ -110,8 +110,41 @@ A parse needs a grammar and a text, and takes no second text.
   pegtool parse --help
   $ pegtool parse g t u 2> e
   [3]
-  $ grep -o -e "unexpected argument 'u'" -e 'pegtool [a-z]* --help' e
-  unexpected argument 'u'
+  $ grep -o -e "^error: .*" -e 'pegtool [a-z]* --help' e
+  error: without '--lines', parse reads one text
+  pegtool parse --help
+
+The options for records need --lines; the line and the list after it are clap's text for MissingRequiredArgument.
+
+  $ pegtool parse g t --failed > o 2> e
+  [3]
+  $ cat o; grep -o -e '^error: .*' -e '^  --lines' e
+  error: the following required arguments were not provided:
+    --lines
+  $ pegtool parse g t --matched 2> e
+  [3]
+  $ grep -o -e '^  --lines' e
+    --lines
+  $ pegtool parse g t --null 2> e
+  [3]
+  $ grep -o -e '^  --lines' e
+    --lines
+  $ pegtool parse g t --crlf 2> e
+  [3]
+  $ grep -o -e '^  --lines' e
+    --lines
+
+A record ends at a line end or at a zero byte, and is asked for because it matches or because it doesn't.
+
+  $ pegtool parse g t --lines --null --crlf 2> e
+  [3]
+  $ grep -o -e 'cannot be used with' -e 'pegtool [a-z]* --help' e
+  cannot be used with
+  pegtool parse --help
+  $ pegtool parse g t --lines --matched --failed 2> e
+  [3]
+  $ grep -o -e 'cannot be used with' -e 'pegtool [a-z]* --help' e
+  cannot be used with
   pegtool parse --help
 
 The capacity of the memo is a number from 0 to 1,000,000, given once.

@@ -1,10 +1,9 @@
-use Rattle.std.proofs.Common.{◌≡◌, Option, false, inl, subst, sym, true}
+use Rattle.std.proofs.Common.{◌≡◌, Option, false, subst, sym, true}
 use Rattle.peg_cli.specs.declared.words.Words.{Words}
 use Rattle.peg_tool.specs.Exits.{IsDeviceExit, IsExitAmong, IsExitOf, IsExitOfCause, exit_fault}
 use Rattle.peg_tool.specs.Faults.{plain_result, standard_input, standard_output, stream_names}
 use Rattle.peg_tool.specs.RequestContract.{EndsAs}
-use Rattle.peg_tool.specs.Requests.{HasReadableFiles, InputRequest, ToolRequest}
-use Rattle.peg_tool.specs.Requests.{requested}
+use Rattle.peg_tool.specs.Requests.{EndsWithInput, requested}
 use Rattle.peg_tool.specs.declared.program.ProgramFault.{ProgramFault}
 use Rattle.peg_tool.proofs.ExitLemmas.{exit-among, exit-cause, exit-device, exit-fault, exit-for, if-ok}
 use Rattle.peg_tool.proofs.exit.run_program.Goals as goal
@@ -37,13 +36,11 @@ returns-in-Ok-clause-output g c failed =
 pub returns-in-Ok-clause-input : goal.returns-in-Ok-clause-input
 returns-in-Ok-clause-input g c =
     let exit = c.from_result.result in
-    let file_at = g.O.Opener.file_at c.args.files.now in
     let input = c.run_request.new.input in
-    if-ok c.args.words c.in-Ok.words (λ asked. requested asked ≡ InputRequest → g.I.Source.failed input ≡ true
-    → IsDeviceExit standard_input (g.I.Source.fault_kind input) exit) c.in-Ok.is (λ same failed.
-    let readable = subst (λ (r : ToolRequest). HasReadableFiles r file_at) (sym same) tt in
+    if-ok c.args.words c.in-Ok.words (λ asked. EndsWithInput (requested asked) → g.I.Source.failed input ≡ true
+    → IsDeviceExit standard_input (g.I.Source.fault_kind input) exit) c.in-Ok.is (λ reads failed.
     exit-device c.run_request.result exit standard_input _ c.from_result.ensures
-    ((c.run_request.ensures.ends.device_fault readable).1 (inl failed)) (c.run_request.ensures.input same failed))
+    (c.run_request.ensures.ends.input_fault reads failed) (c.run_request.ensures.input reads failed))
 
 pub returns-in-Ok-clause-cause : goal.returns-in-Ok-clause-cause
 returns-in-Ok-clause-cause g c =
