@@ -1,6 +1,6 @@
 -- How requests end that write a reply.
 use Rattle.std.proofs.Common.{◌≡◌, ◌⊎◌, ◌↔◌, ℕ, inl, inr, List, Option, None, Some, Result, Ok, Err, IfErr, IfOk, IfSome}
-use Rattle.std.proofs.Common.{refl, sym, ◌∙◌, subst}
+use Rattle.std.proofs.Common.{refl, sym, subst}
 use Rattle.std.specs.Prelude.{Contains}
 use Rattle.std.specs.declared.io.ErrorKind.{ErrorKind}
 use Rattle.peg_io.specs.declared.transfer.ReadFault.{ReadFault}
@@ -11,13 +11,10 @@ use Rattle.peg_json.specs.declared.line.Line.{Line}
 use Rattle.peg_tool.specs.CommandOutcome.{WritesOrFails}
 use Rattle.peg_tool.specs.Faults.{IsFaultAmong, IsFaultAt, plain_result, standard_output}
 use Rattle.peg_tool.specs.WritesRequest.{WritesRequestReply}
-use Rattle.peg_replies.specs.Written.{Prints, PrintsInPart}
 use Rattle.peg_tool.specs.declared.fault.RequestFault.{RequestFault}
 use Rattle.peg_tool.specs.declared.fault.RequestFault.TheVariants as failed
 use Rattle.peg_tool.specs.declared.program.ProgramFault.{ProgramFault}
 use Rattle.peg_tool.specs.declared.program.ProgramFault.TheVariants.{File, Memory}
-use Rattle.peg_replies.specs.declared.write.ToolFault.{ToolFault}
-use Rattle.peg_replies.specs.declared.write.ToolFault.TheVariants as tool
 
 module _ (IsRight : List ℕ → ℕ → Type 0) (old new : Option (List ℕ)) where
   -- a correct line that a request writes, as a whole or in part

@@ -1,13 +1,13 @@
 -- How requests for records end.
-use Rattle.std.proofs.Common.{◌≡◌, ◌≢◌, ◌⊎◌, ◌↔◌, ℕ, ◌+◌, All, Bool, true, false, List, [], ◌∷◌, ◌++◌, map, Option, None, Some}
-use Rattle.std.proofs.Common.{Result, Ok, Err, IfErr, IfSome, inl, inr, ap, arith, refl, subst, sym, ◌∙◌}
+use Rattle.std.proofs.Common.{◌≡◌, ◌≢◌, ◌⊎◌, ◌↔◌, ℕ, ◌+◌, All, Bool, true, false, List, [], ◌∷◌, ◌++◌, Option, None, Some}
+use Rattle.std.proofs.Common.{Result, Ok, Err, IfErr, IfSome, IsErrAnd, inl, inr, ap, arith, refl, subst, sym, ◌∙◌}
 use Rattle.std.proofs.lemmas.List.{get_or-map, length-map}
 use Rattle.std.proofs.lemmas.List.Elements.{All-contains, Contains-append_left, Contains-append_right}
 use Rattle.std.specs.Io.KnownBytes.{Keeps}
 use Rattle.std.specs.Prelude.{Contains, IsErrOf}
 use Rattle.std.specs.Result.{result_err}
 use Rattle.std.specs.declared.io.ErrorKind.{ErrorKind}
-use Rattle.peg_io.specs.NamedFile.{NamedFile, is_readable}
+use Rattle.peg_io.specs.NamedFile.{NamedFile, IsMissing, is_readable}
 use Rattle.peg_json.specs.Lines.{line_bytes}
 use Rattle.peg_json.specs.Statuses.{status_code}
 use Rattle.peg_json.specs.declared.line.Line.{Line}
@@ -28,12 +28,14 @@ use Rattle.peg_replies.specs.declared.record_parser.RecordParser.{RecordParser}
 use Rattle.peg_tool.specs.CommandOutcome.{RecordsOutcome, WritesOrFails, records_result}
 use Rattle.peg_tool.specs.Faults.{IsFaultAmong, IsFaultAt, plain_fault, plain_result, record_streams, standard_input, standard_output}
 use Rattle.peg_tool.specs.RecordFaults.{EndsRecords, HasFaultOfRecords}
+use Rattle.peg_tool.specs.RequestContract.{EndsAs}
+use Rattle.peg_tool.specs.Requests.{RecordsRequest}
 use Rattle.peg_tool.specs.WritesRequest.{WritesRequestReply}
 use Rattle.peg_tool.specs.declared.fault.RequestFault.{RequestFault}
 use Rattle.peg_tool.specs.declared.fault.RequestFault.TheVariants as failed
-use Rattle.peg_tool.specs.declared.fault.Stream.TheVariants as streams
 use Rattle.peg_tool.specs.declared.program.ProgramFault.{ProgramFault}
 use Rattle.peg_tool.specs.declared.program.ProgramFault.TheVariants.{File, Memory}
+use Rattle.peg_tool.specs.declared.report.Report.{Report}
 use Rattle.peg_tool.proofs.CoverageLemmas.{at-among, ended-among, last-among}
 
 -- ---- the lines of records
@@ -233,4 +235,45 @@ refusal-end file_at names input_failed output_failed input output result works f
       output = λ bad. named;
       cause = λ written. works-fault (record_streams names) result
           (λ is. let both : false ≡ true = sym written ∙ fault.0 is in cc);
+    }
+
+-- ---- requests
+
+-- a fault that is passed on is the fault of the result
+pub passed-fault : (ended : Result ℕ RequestFault) (fault : RequestFault) (result : Result Report RequestFault)
+    → ended ≡ Err fault → IsErrAnd result (λ stated. stated ≡ fault)
+    → result_err (plain_result result) ≡ result_err (plain_result ended)
+passed-fault ended fault (Ok it) was is = absurd is
+passed-fault ended fault (Err stated) was is =
+    ap (λ f. Some (plain_fault f)) is ∙ sym (ap (λ r. result_err (plain_result r)) was)
+
+file-error : (result : Result ℕ ProgramFault) → result_err result ≡ Some File → result ≡ Err File
+file-error (Ok status) is = absurd (let bad : None ≡ Some File = is in cc)
+file-error (Err fault) is = let same : fault ≡ File = cc in ap Err same
+
+-- how a request for records ends
+pub request-end : (task : ToolTask) (g : List ℕ) (texts : List (List ℕ)) (end : RecordEnd) (filter : RecordFilter)
+    (file_at : List ℕ → NamedFile) (input_failed output_failed : Bool) (SameInput SameOutput : Type 0)
+    (old new : Option (List ℕ)) (ended : Result ℕ RequestFault) (fault : Option ProgramFault)
+    → fault ≡ result_err (plain_result ended) → (texts ≢ [] → SameInput)
+    → (IsMissing (file_at g) → IsErrOf (plain_result ended) File × SameOutput)
+    → (is_readable (file_at g) ≡ true → All (λ text. is_readable (file_at text) ≡ true) texts
+    → (IsErrOf (plain_result ended) File ↔ ((input_failed ≡ true) ⊎ (output_failed ≡ true))))
+    → (input_failed ≡ true → IsErrOf (plain_result ended) File)
+    → (output_failed ≡ true → IsErrOf (plain_result ended) File)
+    → EndsAs (RecordsRequest task g texts end filter) file_at fault input_failed output_failed SameInput SameOutput old new
+request-end task g texts end filter file_at input_failed output_failed SameInput SameOutput old new ended fault same
+    alone missing device read written = record {
+      unread = alone;
+      no_grammar = λ none. (same ∙ ap result_err (missing none).0, (missing none).1);
+      no_text = λ none. absurd none;
+      device_fault = λ readable. (
+        λ is. (device readable.0 readable.1).0 (file-error (plain_result ended) (sym same ∙ is)),
+        λ bad. same ∙ ap result_err ((device readable.0 readable.1).1 bad),
+      );
+      write_fault = λ bad. same ∙ ap result_err (written bad);
+      input_fault = λ reads bad. same ∙ ap result_err (read bad);
+      explain_fault = λ none. absurd none;
+      test_fault = λ none. absurd none;
+      memory = λ late. absurd (late tt);
     }

@@ -43,7 +43,7 @@ pub use Rattle.peg_records.specs.Records
 pub use Rattle.peg_record_files.specs.RecordReplies
 pub use Rattle.peg_record_files.specs.Streams
 pub use Rattle.peg_replies.specs.PrintedNodes
-pub use Rattle.peg_replies.specs.RecordReplies
+pub use Rattle.peg_replies.specs.RecordReplies as ParsedRecords
 pub use Rattle.peg_replies.specs.Replies
 pub use Rattle.peg_replies.specs.Task
 pub mod CommandOutcome

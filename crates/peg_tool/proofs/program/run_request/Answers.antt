@@ -1,9 +1,13 @@
-use Rattle.std.proofs.Common.{IfErr, Ok, subst, ◌∷◌, []}
+use Rattle.std.proofs.Common.{IfErr, Ok, map, string_bytes, subst, ◌++◌, ◌≡◌, ◌∷◌, []}
+use Rattle.std.specs.Result.{result_err}
+use Rattle.peg_messages.specs.FileNames.{shown_name}
 use Rattle.peg_tool.specs.CommandOutcome.{RequestOutcome}
-use Rattle.peg_tool.specs.Faults.{IsFaultAmong, plain_result, standard_output, stream_names}
+use Rattle.peg_tool.specs.Faults.{IsFaultAmong, plain_result, record_streams, standard_output, stream_names}
+use Rattle.peg_tool.specs.RequestContract.{EndsAs}
 use Rattle.peg_tool.specs.Requests.{ToolRequest}
 use Rattle.peg_tool.specs.declared.report.Report.TheVariants as report
 use Rattle.peg_tool.proofs.CoverageLemmas.{at-among, first-among}
+use Rattle.peg_tool.proofs.RecordsLemmas.{passed-fault, request-end}
 use Rattle.peg_tool.proofs.ReportLemmas.{done-fault, done-status, found-fault, found-findings, passed-among}
 use Rattle.peg_tool.proofs.program.run_request.Goals as goal
 
@@ -148,3 +152,25 @@ returns-in_ok-on_records-in-Records-clause-leads g c =
       c.on_records.ensures.leads,
       done-status c.on_records.result _ c.in_ok-on_records-in-Records.was,
     )
+
+pub returns-in_err-on_records-in-Records-clause-ends : goal.returns-in_err-on_records-in-Records-clause-ends
+returns-in_err-on_records-in-Records-clause-ends g c =
+    let passed = c.from_residual-in_err-on_records-in-Records in
+    let ended = c.on_records in
+    let holds = ended.ensures in
+    let fault = result_err (plain_result passed.result) in
+    subst (λ (r : ToolRequest). EndsAs r (g.O.Opener.file_at c.args.files.now) fault
+    (g.I.Source.failed ended.new.input) (g.W.Sink.failed ended.new.output) (ended.new.input ≡ c.args.input.now)
+    (ended.new.output ≡ c.args.output.now) (g.W.Sink.written c.args.output.now) (g.W.Sink.written ended.new.output))
+    c.in-Records.ensures
+    (request-end _ _ _ _ _ _ _ _ _ _ _ _ ended.result fault
+    (passed-fault ended.result _ passed.result c.in_err-on_records-in-Records.was passed.ensures.1) holds.unread
+    holds.no_grammar holds.device_fault holds.read_fault holds.write_fault)
+
+pub returns-in_err-on_records-in-Records-clause-named : goal.returns-in_err-on_records-in-Records-clause-named
+returns-in_err-on_records-in-Records-clause-named g c =
+    let passed = c.from_residual-in_err-on_records-in-Records in
+    let streams = record_streams (map string_bytes c.in-Records.parse.query.texts.now) in
+    subst (λ (r : ToolRequest). IfErr passed.result (IsFaultAmong (stream_names r))) c.in-Records.ensures
+    (passed-among (shown_name c.in-Records.g.now ∷ streams ++ standard_output ∷ []) _ passed.result
+    c.in_err-on_records-in-Records.ensures.named passed.ensures.1)

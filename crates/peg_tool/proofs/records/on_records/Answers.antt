@@ -1,11 +1,10 @@
-use Rattle.std.proofs.Common.{List, map, string_bytes, ◌++◌, ◌∷◌, [], ℕ, IfOk}
+use Rattle.std.proofs.Common.{List, map, string_bytes, ℕ}
 use Rattle.peg_io.specs.NamedFile.{bytes_of}
 use Rattle.peg_messages.specs.FileNames.{shown_name}
 use Rattle.peg_replies.specs.Commands.{parse_task}
 use Rattle.peg_replies.specs.RecordParsers.{IsPreparedFor}
 use Rattle.peg_tool.specs.CommandOutcome.{RecordsOutcome}
-use Rattle.peg_tool.specs.Faults.{plain_result, record_streams, standard_output}
-use Rattle.peg_tool.proofs.CoverageLemmas.{at-among, first-among}
+use Rattle.peg_tool.specs.Faults.{plain_result, record_streams}
 use Rattle.peg_tool.proofs.RecordsLemmas.{records-among, records-opened}
 use Rattle.peg_tool.proofs.records.on_records.Goals as goal
 

@@ -1,4 +1,6 @@
-use Rattle.std.proofs.Common.{◌∙◌, ◌≡◌, ap, false, inr, map, string_bytes}
+use Rattle.std.proofs.Common.{◌∙◌, Option, ap, inr, map, string_bytes, subst}
+use Rattle.std.specs.declared.io.ErrorKind.{ErrorKind}
+use Rattle.peg_tool.specs.RecordFaults.{HasFaultOfRecords}
 use Rattle.peg_tool.proofs.RecordsLemmas.{has-parse, records-by, records-end}
 use Rattle.peg_tool.proofs.records.write_by_parser.Goals as goal
 
@@ -17,10 +19,17 @@ returns-clause-leads g c file of =
 pub returns-clause-ends : goal.returns-clause-ends
 returns-clause-ends g c =
     let ended = c.write_records-ended in
+    let result = c.status_or_fault.result in
+    let input = g.I.Source.fault_kind ended.new.input in
+    let output = g.W.Sink.fault_kind ended.new.output in
+    let half = subst (λ (kind : Option ErrorKind). HasFaultOfRecords ended.result kind c.fault_kind-2.result result)
+    c.fault_kind.ensures.kind c.status_or_fault.ensures.fault in
+    let has = subst (λ (kind : Option ErrorKind). HasFaultOfRecords ended.result input kind result)
+    c.fault_kind-2.ensures.kind half in
     records-end (g.O.Opener.file_at c.args.files.now) (map string_bytes c.args.query.now.texts.now)
-    (g.I.Source.failed ended.new.input) (g.W.Sink.failed ended.new.output) _ _ ended.result c.status_or_fault.result
-    c.status_or_fault.ensures.plain c.status_or_fault.ensures.fault ended.ensures.text ended.ensures.input
-    ended.ensures.output (λ some. ap g.I.Source.failed (ended.ensures.unread (λ same. some (ap (map string_bytes) same)))
+    (g.I.Source.failed ended.new.input) (g.W.Sink.failed ended.new.output) input output ended.result result
+    c.status_or_fault.ensures.plain has ended.ensures.text ended.ensures.input ended.ensures.output
+    (λ some. ap g.I.Source.failed (ended.ensures.unread (λ same. some (ap (map string_bytes) same)))
     ∙ c.requires.input_works)
 
 pub returns-clause-unread : goal.returns-clause-unread
