@@ -55,11 +55,11 @@ The help of profile has several texts, the option for coverage and the defaults:
   [default: 1000000000]
   Example: pegtool profile grammar.peg text
 
-The help of parse has its options, the default of the memo and the refusals.
+The help of parse has its options, the default of the memo and the refusals. With --lines there may be no text.
 
   $ pegtool parse --help > h
-  $ grep -o -e 'Usage: pegtool parse \[OPTIONS] <G> <T>' -e '\[default: 4096]' -e '--steps <N>' h
-  Usage: pegtool parse [OPTIONS] <G> <T>
+  $ grep -o -e 'Usage: pegtool parse \[OPTIONS] <G> \[T]\.\.\.' -e '\[default: 4096]' -e '--steps <N>' h
+  Usage: pegtool parse [OPTIONS] <G> [T]...
   [default: 4096]
   --steps <N>
   $ grep -o -e '  --no-tree' -e '--show <LIST>' -e '--hide <LIST>' -e 'NoSuchRule, status 3' h

@@ -26,10 +26,12 @@ With --terminals all items are written.
 Blank, LineComment and BlockComment are called at 2, too. Spacing calls them, and no rule outside it does; BlockComment
 calls itself.
 
-  $ pegtool explain examples/cookbook/spacing.peg <(printf 'a ?') | sed 's/^[^:]*//'
-  :1:3: expected the end or Word, found '?'
+  $ printf 'a ?' > t
+  $ pegtool explain examples/cookbook/spacing.peg t
+  t:1:3: expected the end or Word, found '?'
   a ?
     ^
+  [1]
 
 Within a comment nothing but spacing is expected, so it is written: BlockComment may begin again at 6.
 
