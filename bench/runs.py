@@ -31,8 +31,8 @@ def peak_so_far(process):
 
 
 def piped(words, line, count):
-    """The CPU seconds and the peak memory in bytes of one run that gets a line so many times from a pipe, and prints to
-    nowhere. It must end with status 0."""
+    """The CPU seconds and the peak memory in bytes of one run, which must end with status 0. It gets a line this number of
+    times from a pipe, and prints to nowhere."""
     lines = 2**16 // len(line)
     with subprocess.Popen(words, stdin=subprocess.PIPE, stdout=subprocess.DEVNULL) as process:
         for start in range(0, count, lines):

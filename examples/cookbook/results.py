@@ -1,6 +1,7 @@
 #!/usr/bin/env python3
 """Counts the lines of a file that match a grammar, and those that don't: `results.py GRAMMAR FILE [WORKERS]`. With a
-number of workers, Dask runs so many processes, each on blocks of whole lines. The package pegtool must be installed."""
+number of workers, Dask runs that number of processes, each on blocks of whole lines. The package pegtool must be
+installed."""
 import collections
 import io
 import sys
@@ -23,7 +24,7 @@ def counts(grammar, path):
 
 
 def counts_of_workers(grammar, path, workers):
-    """The counts, by so many processes."""
+    """The counts, with this number of processes."""
     import dask
     import dask.bag
     import dask.bytes
