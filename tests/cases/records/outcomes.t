@@ -111,3 +111,14 @@ An output that can't be written is a fault. If its reader is gone, the status al
   $ (yes a | head -n 200000 | pegtool parse g --lines --no-tree; echo $? > status) | head -n 1; cat status
   {"record":1,"consumed":1,"expected":[[5,8]],"far":1,"result":"matched"}
   4
+
+Wherever a write fails, the file has the first part of the lines, and the status is 4. The two lines of 72 bytes each
+have 144 bytes, and each number below that is tried as the most that a file may hold.
+
+  $ pegtool parse g all --lines --no-tree | tee whole | wc -c
+  144
+  $ trap '' XFSZ; for most in $(seq 0 143); do
+  >   prlimit --fsize=$most pegtool parse g all --lines --no-tree > part 2> /dev/null; echo "status $?"
+  >   head -c $most whole | cmp - part
+  > done | sort | uniq -c
+      144 status 4
