@@ -3,6 +3,7 @@ mod ExplanationLemmas
 mod FileOrderLemmas
 mod MappedLemmas
 mod NamingLemmas
+mod NearNameLemmas
 mod PartLemmas
 pub mod RefusalCauses
 pub mod RefusalLemmas

@@ -38,14 +38,14 @@ placed size why other (of_cause cause cause_is kind starts named) = record {
 
 -- the message for the reason of a cause is the message for the cause
 pub by_reason : (name file : List ℕ) (definitions : List Reference) (cause : Cause) (why : Reason) (message : List ℕ)
-    → IsReasonOf (length file) definitions cause why → IsReasonMessage name file why message
+    → IsReasonOf file definitions cause why → IsReasonMessage name file why message
     → IsRefusalMessage name file definitions cause message
 by_reason name file definitions cause why message is (rejection, named, of_file, has, same) = (
   rejection,
   record {
     named = named;
     has_file = of_file;
-    has_reason = subst (λ (w : Reason). IsReasonOf (length file) definitions cause w) (sym has) is;
+    has_reason = subst (λ (w : Reason). IsReasonOf file definitions cause w) (sym has) is;
   },
   same,
 )
@@ -63,7 +63,7 @@ known-cause (Err fault) name file definitions found some is = tt
 -- the same by a reason
 pub known-reason : (result : Result (Vec ℕ Global) AllocError) (name file : List ℕ) (definitions : List Reference)
     (found : Option Cause) (why : Reason) → is_some found ≡ true
-    → IfSome found (λ cause. IsReasonOf (length file) definitions cause why)
+    → IfSome found (λ cause. IsReasonOf file definitions cause why)
     → IfOk result (λ message. IsReasonMessage name file why message.items)
     → IfOk result (λ message. (cause : Cause) × (found ≡ Some cause)
     × IsRefusalMessage name file definitions cause message.items)
@@ -71,6 +71,16 @@ known-reason (Ok message) name file definitions None why some is written = cc
 known-reason (Ok message) name file definitions (Some cause) why some is written =
     (cause, refl, by_reason name file definitions cause why message.items is written)
 known-reason (Err fault) name file definitions found why some is written = tt
+
+-- the message for a cause, if there is one, by its reason
+pub some-reason : (result : Result (Vec ℕ Global) AllocError) (name file : List ℕ) (definitions : List Reference)
+    (found : Option Cause) (why : Reason) → IfSome found (λ cause. IsReasonOf file definitions cause why)
+    → IfOk result (λ message. IsReasonMessage name file why message.items)
+    → IfOk result (λ message. IfSome found (λ cause. IsRefusalMessage name file definitions cause message.items))
+some-reason (Ok message) name file definitions None why is written = tt
+some-reason (Ok message) name file definitions (Some cause) why is written =
+    by_reason name file definitions cause why message.items is written
+some-reason (Err fault) name file definitions found why is written = tt
 
 -- the definition with a number has the name and the span of that number
 pub definition-numbered : (rules : List Rule) (k : ℕ) (span : Extent)

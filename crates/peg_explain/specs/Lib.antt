@@ -27,6 +27,7 @@ pub mod Explainers
 pub mod Explanations
 pub mod Names
 pub mod Namings
+pub mod NearNames
 pub mod RefusalMessages
 pub mod Parts
 pub mod Reports

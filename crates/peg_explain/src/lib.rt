@@ -6,6 +6,7 @@ mod expected;
 mod explainer;
 mod mismatch;
 mod names;
+mod near_names;
 mod outcomes;
 mod parts;
 mod refusals;

@@ -1,22 +1,26 @@
 //! Messages for refused grammar files.
-ghost use Rattle.std.specs.Prelude.{◌≡◌, ◌≢◌, ◌≤◌, ◌<◌, ℕ, List, All, IfOk, IfSome, Some, is_some, length, map, true};
+ghost use Rattle.std.specs.Prelude.{◌≡◌, ◌≢◌, ◌≤◌, ◌<◌, [], ℕ, List, All, IfOk, IfSome, Some, is_some, length, map, option_map, true};
 ghost use Rattle.peg_bytes.specs.Place.{max_offset};
 ghost use Rattle.peg_check.specs.Verdicts.{NamesRules};
 ghost use Rattle.peg_grammar.specs.GrammarRules.{rules_in};
+ghost use Rattle.peg_grammar.specs.Written.{rules_of};
 ghost use Rattle.peg_messages.specs.Rejections.{given_offset};
+ghost use Rattle.peg_parser.specs.Accepts.{IsRead};
 ghost use Rattle.peg_parser.specs.Cause.{Cause, LeftRecursion};
 ghost use Rattle.peg_parser.specs.Faults.{IsTrueRefusal, StartsIn, cause_of};
 ghost use Rattle.peg_parser.specs.Faults.{check_cause, grammar_cause, notation_cause};
 ghost use Rattle.peg_semantics.specs.Form.{Reference};
-ghost use Rattle.peg_semantics.specs.Rules.{defined_at, names};
+ghost use Rattle.peg_semantics.specs.Rules.{Rule, defined_at, names};
 ghost use Rattle.peg_tree.specs.Names.{name_at};
 ghost use Rattle.peg_explain.specs.RefusalMessages.{IsCycleOffset, IsReasonMessage, IsReasonOf, IsRefusalMessage};
+ghost use Rattle.peg_explain.specs.RefusalMessages.{IsMeantFor, KnowsRules};
 ghost use Rattle.peg_explain.specs.RefusalMessages.{refusal_definitions};
 
+use crate::near_names::meant_by;
 use peg_check::CheckFault;
-use peg_grammar::{Grammar, GrammarFault};
+use peg_grammar::{Definition, Grammar, GrammarFault};
 use peg_messages::{Reason, Rejection};
-use peg_notation::NotationFault;
+use peg_notation::{NotationFault, read};
 use peg_parser::Refusal;
 use std::alloc::{AllocError, Global};
 
@@ -53,7 +57,7 @@ pub fn refusal_message(
 {
     match refusal {
         Refusal::Notation(fault) => message_of(alloc, name, file, notation_reason(fault)),
-        Refusal::Grammar(fault) => message_of(alloc, name, file, grammar_reason(fault)),
+        Refusal::Grammar(fault) => grammar_message(alloc, name, file, fault),
         Refusal::NotWellFormed(fault, grammar) => check_message(alloc, name, file, fault, grammar),
         Refusal::CodeTooLarge => message_of(alloc, name, file, Reason::CodeTooLarge),
         Refusal::Memory => unreachable!(),
@@ -80,8 +84,8 @@ fn message_of(
 // Returns the reason for a file that isn't in the notation, or that exceeds a limit of it.
 fn notation_reason(fault: &NotationFault) -> Reason<'static>
     requires { is_some (notation_cause fault.now) ≡ true }
-    ensures reason { (size : ℕ) (definitions : List Reference)
-        → IfSome (notation_cause fault.now) (λ cause. IsReasonOf size definitions cause result) }
+    ensures reason { (file : List ℕ) (definitions : List Reference)
+        → IfSome (notation_cause fault.now) (λ cause. IsReasonOf file definitions cause result) }
     ensures in_file { (size : ℕ) → IfSome (notation_cause fault.now) (StartsIn size)
         → IfSome (given_offset result) (λ at. at ≤ size) }
 {
@@ -94,11 +98,79 @@ fn notation_reason(fault: &NotationFault) -> Reason<'static>
     }
 }
 
-// Returns the reason for definitions that aren't a grammar, or that are too large.
-fn grammar_reason(fault: &GrammarFault) -> Reason<'_>
+// Returns the message for definitions that aren't a grammar, or that are too large.
+fn grammar_message(
+    alloc: Global,
+    name: &[u8],
+    file: &[u8],
+    fault: &GrammarFault,
+) -> Result<Vec<u8>, AllocError>
+    requires has_cause { is_some (grammar_cause fault.now) ≡ true }
+    requires short { length file.now ≤ max_offset }
+    requires places { IfSome (grammar_cause fault.now) (StartsIn (length file.now)) }
+    ensures { IfOk result (λ message. IfSome (grammar_cause fault.now) (λ cause.
+        IsRefusalMessage name.now file.now [] cause message.items)) }
+{
+    let definitions = definitions_for(alloc, file, fault)?;
+    let meant = meant_for(fault, &definitions);
+    message_of(alloc, name, file, grammar_reason(fault, meant))
+}
+
+// Returns the definitions of a file, if a name in it is undefined.
+fn definitions_for(
+    alloc: Global,
+    file: &[u8],
+    fault: &GrammarFault,
+) -> Result<Vec<Definition>, AllocError>
+    ensures { IfOk result (λ definitions. KnowsRules file.now fault.now (rules_of definitions.items)) }
+{
+    match fault {
+        GrammarFault::Undefined { .. } => definitions_in(alloc, file),
+        _ => Ok(Vec::new(alloc)),
+    }
+}
+
+// Returns the definitions of a file in the notation.
+fn definitions_in(alloc: Global, file: &[u8]) -> Result<Vec<Definition>, AllocError>
+    ensures { IfOk result (λ definitions. (rules : List Rule) → IsRead file.now rules
+        → rules ≡ rules_of definitions.items) }
+{
+    match read(alloc, file) {
+        Ok(definitions) => Ok(definitions),
+        Err(fault) => no_definitions(alloc, fault),
+    }
+}
+
+// Returns no definitions, for a file that has none for this reason.
+fn no_definitions(alloc: Global, fault: NotationFault) -> Result<Vec<Definition>, AllocError>
+    ensures { IfOk result (λ definitions. fault ≢ NotationFault.Memory) }
+{
+    match fault {
+        NotationFault::Memory => Err(AllocError),
+        NotationFault::FileTooLong
+        | NotationFault::Syntax { .. }
+        | NotationFault::TooNested { .. }
+        | NotationFault::BadCount { .. } => Ok(Vec::new(alloc)),
+    }
+}
+
+// Returns the name of the definition that may be meant, if a name is undefined.
+fn meant_for<'a>(fault: &GrammarFault, definitions: &'a [Definition]) -> Option<&'a str>
+    ensures { (file : List ℕ) → KnowsRules file fault.now (rules_of definitions.now)
+        → IsMeantFor file fault.now (option_map (λ rule. rule.now) result) }
+{
+    match fault {
+        GrammarFault::Undefined { name, .. } => meant_by(definitions, name),
+        _ => None,
+    }
+}
+
+// Returns the reason for definitions that aren't a grammar, or that are too large. A rule may be known that is meant by
+// an undefined name.
+fn grammar_reason<'a>(fault: &'a GrammarFault, meant: Option<&'a str>) -> Reason<'a>
     requires { is_some (grammar_cause fault.now) ≡ true }
-    ensures reason { (size : ℕ) (definitions : List Reference)
-        → IfSome (grammar_cause fault.now) (λ cause. IsReasonOf size definitions cause result) }
+    ensures reason { (file : List ℕ) → IsMeantFor file fault.now (option_map (λ rule. rule.now) meant.entry)
+        → IfSome (grammar_cause fault.now) (λ cause. IsReasonOf file [] cause result) }
     ensures in_file { (size : ℕ) → IfSome (grammar_cause fault.now) (StartsIn size)
         → IfSome (given_offset result) (λ at. at ≤ size) }
 {
@@ -110,6 +182,7 @@ fn grammar_reason(fault: &GrammarFault) -> Reason<'_>
         },
         GrammarFault::Undefined { name, span } => Reason::Undefined {
             name: name.as_str(),
+            meant,
             at: span.start,
         },
         GrammarFault::BadCount { span } => Reason::BadCount { at: span.start },

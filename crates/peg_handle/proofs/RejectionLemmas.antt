@@ -103,19 +103,19 @@ is_rejection_ok file why (Err error) holds meaning has other reported printed = 
 -- ---- a file that is too long
 
 -- no other reason is that of a file that is too long
-too_long_reason : (size : ℕ) (definitions : List Reference) (why : Reason)
-    → IsReasonOf size definitions FileTooLong why → why ≡ reason.FileTooLong
-too_long_reason size definitions reason.FileTooLong is = refl
-too_long_reason size definitions (reason.Syntax at) is = absurd is
-too_long_reason size definitions (reason.TooNested at) is = absurd is
-too_long_reason size definitions (reason.BadCount at) is = absurd is
-too_long_reason size definitions reason.NoRule is = absurd is
-too_long_reason size definitions (reason.Duplicate name at) is = absurd is
-too_long_reason size definitions (reason.Undefined name at) is = absurd is
-too_long_reason size definitions reason.TooManyParts is = absurd is
-too_long_reason size definitions (reason.EmptyLoop rule at) is = absurd is
-too_long_reason size definitions (reason.LeftRecursion path at) is = absurd is
-too_long_reason size definitions reason.CodeTooLarge is = absurd is
+too_long_reason : (file : List ℕ) (definitions : List Reference) (why : Reason)
+    → IsReasonOf file definitions FileTooLong why → why ≡ reason.FileTooLong
+too_long_reason file definitions reason.FileTooLong is = refl
+too_long_reason file definitions (reason.Syntax at) is = absurd is
+too_long_reason file definitions (reason.TooNested at) is = absurd is
+too_long_reason file definitions (reason.BadCount at) is = absurd is
+too_long_reason file definitions reason.NoRule is = absurd is
+too_long_reason file definitions (reason.Duplicate name at) is = absurd is
+too_long_reason file definitions (reason.Undefined name meant at) is = absurd is
+too_long_reason file definitions reason.TooManyParts is = absurd is
+too_long_reason file definitions (reason.EmptyLoop rule at) is = absurd is
+too_long_reason file definitions (reason.LeftRecursion path at) is = absurd is
+too_long_reason file definitions reason.CodeTooLarge is = absurd is
 
 -- the message for a reason
 abbrev message_for : (name file : Bor (List ℕ)) → Reason → List ℕ
@@ -125,7 +125,7 @@ message_for name file why = rejection_message (record { name = name; file = file
 too_long_message : (file : Bor (List ℕ)) (definitions : List Reference) (message : List ℕ)
     → IsRefusalMessage [] [] definitions FileTooLong message → IsRefusalMessage [] file.now [] FileTooLong message
 too_long_message file definitions message (shown, is, same) =
-    let only : shown.reason ≡ reason.FileTooLong = too_long_reason 0 definitions shown.reason is.has_reason in (
+    let only : shown.reason ≡ reason.FileTooLong = too_long_reason [] definitions shown.reason is.has_reason in (
       record { name = shown.name; file = file; reason = reason.FileTooLong },
       record { named = is.named; has_file = refl; has_reason = tt },
       same ∙ ap (message_for shown.name shown.file) only,

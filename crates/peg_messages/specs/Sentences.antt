@@ -1,6 +1,6 @@
 -- Why a grammar file is refused, as a sentence of a message.
 use Rattle.std.specs.Prelude.{ℕ, ◌+◌, ◌==◌, Bool, not, ◌&&◌, ◌||◌, if◌then◌else◌}
-use Rattle.std.specs.Prelude.{List, [], ◌∷◌, ◌++◌, codes, drop, length, map, slice_index}
+use Rattle.std.specs.Prelude.{List, [], ◌∷◌, ◌++◌, Option, None, Some, codes, drop, length, map, option_map, slice_index}
 use Rattle.std.specs.List.{flat_map, take_while}
 use Rattle.peg_messages.specs.Characters.{first_character}
 use Rattle.peg_messages.specs.Found.{found_text}
@@ -80,12 +80,17 @@ abbrev pub is_case_flag : (file name : List ℕ) → (at : ℕ) → Bool
 is_case_flag file name at =
     length name == 1 && slice_index name 0 == 105 && (byte_before file at == 39 || byte_before file at == 34)
 
+-- whether a rule is meant, if one is known
+abbrev pub meant_question : (meant : Option (List ℕ)) → List ℕ
+meant_question None = []
+meant_question (Some rule) = codes ": did you mean " ++ (rule ++ codes "?")
+
 -- no rule has a name at an offset: a literal can't ignore case, if the name is the sign for this in other notations
-abbrev pub undefined_sentence : (file name : List ℕ) → (at : ℕ) → List ℕ
-undefined_sentence file name at =
+abbrev pub undefined_sentence : (file name : List ℕ) → (meant : Option (List ℕ)) → (at : ℕ) → List ℕ
+undefined_sentence file name meant at =
     if is_case_flag file name at
     then codes "a literal can't ignore case: write a class for each letter, as in [sS] [eE]"
-    else rule_sentence name (codes " is not defined")
+    else rule_sentence name (codes " is not defined") ++ meant_question meant
 
 -- a name after an arrow
 abbrev pub arrowed : List ℕ → List ℕ
@@ -105,7 +110,8 @@ reason_sentence file (reason.BadCount at) =
     codes "a count ends at 1 to 255, and its first number is at most its second"
 reason_sentence file reason.NoRule = codes "the file has no rule"
 reason_sentence file (reason.Duplicate name at) = rule_sentence name.now (codes " is defined twice")
-reason_sentence file (reason.Undefined name at) = undefined_sentence file name.now at
+reason_sentence file (reason.Undefined name meant at) =
+    undefined_sentence file name.now (option_map (λ rule. rule.now) meant) at
 reason_sentence file reason.TooManyParts = codes "the grammar has more than 4194304 parts"
 reason_sentence file (reason.EmptyLoop rule at) =
     codes "this repetition matches the empty text again and again, in " ++ rule.now

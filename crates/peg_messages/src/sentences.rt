@@ -1,11 +1,11 @@
 //! Sentences that say why a grammar file is refused.
-ghost use Rattle.std.specs.Prelude.{◌≡◌, ◌≤◌, ◌<◌, ◌+◌, ◌++◌, OnOk, codes, drop, length, map};
+ghost use Rattle.std.specs.Prelude.{◌≡◌, ◌≤◌, ◌<◌, ◌+◌, ◌++◌, OnOk, codes, drop, length, map, option_map};
 ghost use Rattle.std.specs.List.{flat_map};
 ghost use Rattle.peg_bytes.specs.Place.{max_offset};
 ghost use Rattle.peg_messages.specs.Sentences.{arrow_hint, arrowed, backslash_text, cause_sentence, dash_hint};
 ghost use Rattle.peg_messages.specs.Sentences.{escape_sentence};
 ghost use Rattle.peg_messages.specs.Sentences.{foreign_sentence, name_from, path_text, reason_sentence};
-ghost use Rattle.peg_messages.specs.Sentences.{is_case_flag, rule_sentence, token_text, undefined_sentence};
+ghost use Rattle.peg_messages.specs.Sentences.{is_case_flag, meant_question, rule_sentence, token_text, undefined_sentence};
 
 use crate::bytes::{byte_at, bytes_after};
 use crate::causes::SyntaxCause;
@@ -37,7 +37,7 @@ pub(crate) fn write_sentence(
         ),
         Reason::NoRule => out.extend_from_slice(b"the file has no rule"),
         Reason::Duplicate { name, .. } => write_rule(name, b" is defined twice", out),
-        Reason::Undefined { name, at } => write_undefined(file, name, at, out),
+        Reason::Undefined { name, meant, at } => write_undefined(file, name, meant, at, out),
         Reason::TooManyParts => out.extend_from_slice(b"the grammar has more than 4194304 parts"),
         Reason::EmptyLoop { rule, .. } => write_two(
             b"this repetition matches the empty text again and again, in ",
@@ -203,15 +203,42 @@ fn write_dash_hint(rest: &[u8], out: &mut Vec<u8>) -> Result<(), AllocError>
 }
 
 // Writes that no rule has a name, or that a literal can't ignore case.
-fn write_undefined(file: &[u8], name: &str, at: u32, out: &mut Vec<u8>) -> Result<(), AllocError>
-    ensures { OnOk result (out.new.items ≡ out.old.items ++ undefined_sentence file.now name.now at) }
+fn write_undefined(
+    file: &[u8],
+    name: &str,
+    meant: Option<&str>,
+    at: u32,
+    out: &mut Vec<u8>,
+) -> Result<(), AllocError>
+    ensures { OnOk result (out.new.items
+        ≡ out.old.items ++ undefined_sentence file.now name.now (option_map (λ rule. rule.now) meant.entry) at) }
 {
     if is_case_flag(file, name, at) {
         return out.extend_from_slice(
             b"a literal can't ignore case: write a class for each letter, as in [sS] [eE]",
         );
     }
-    write_rule(name, b" is not defined", out)
+    write_missing(name, meant, out)
+}
+
+// Writes that no rule has a name, and asks whether a rule is meant, if one is known.
+fn write_missing(name: &str, meant: Option<&str>, out: &mut Vec<u8>) -> Result<(), AllocError>
+    ensures { OnOk result (out.new.items ≡ out.old.items ++ (rule_sentence name.now (codes " is not defined")
+        ++ meant_question (option_map (λ rule. rule.now) meant.entry))) }
+{
+    write_rule(name, b" is not defined", out)?;
+    match meant {
+        None => Ok(()),
+        Some(rule) => write_question(rule, out),
+    }
+}
+
+// Asks whether a rule is meant.
+fn write_question(rule: &str, out: &mut Vec<u8>) -> Result<(), AllocError>
+    ensures { OnOk result (out.new.items ≡ out.old.items ++ (codes ": did you mean " ++ (rule.now ++ codes "?"))) }
+{
+    out.extend_from_slice(b": did you mean ")?;
+    write_two(rule.as_bytes(), b"?", out)
 }
 
 // Returns whether a name is `i`, right after a quote.

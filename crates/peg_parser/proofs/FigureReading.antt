@@ -24,6 +24,7 @@ use Rattle.peg_bootstrap.specs.declared.fault.DefinitionsFault.{DefinitionsFault
 use Rattle.peg_bootstrap.specs.declared.fault.DefinitionsFault.TheVariants as definitions
 use Rattle.peg_parser.specs.ReadsByFigure.{ReadsByFigure, AgreesWithRead, of_definitions}
 use Rattle.peg_parser.specs.declared.meta_reader.FigureFault.{FigureFault}
+use Rattle.peg_parser.proofs.Readings.{one_reading}
 use Rattle.peg_parser.specs.declared.meta_reader.FigureFault.TheVariants.{FileTooLong, NotInFigure, TooNested, BadCount, Memory}
 
 -- ---- a file has one tree
@@ -43,11 +44,6 @@ tree_reads file tree rules m none is within = ((m.0, tree, m.1, none, is), tree_
 
 pub tree_deep : (file : List ℕ) (tree : Trees) → IsTreeOf file tree → max_open < nesting tree → NestsDeeper max_open file
 tree_deep file tree m deep end trees other = subst (λ t. max_open < nesting t) (one_tree file tree trees m (end, other)) deep
-
--- a file has one reading
-one_reading : (file : List ℕ) (a b : List Rule) → IsReading file a → IsReading file b → a ≡ b
-one_reading file a b m n =
-    m.4 ∙ (ap (rules_spelled file) (one_tree file m.1 n.1 (m.0, m.2) (n.0, n.2)) ∙ sym n.4)
 
 -- ---- the outcome
 

@@ -10,6 +10,7 @@ mod GrammarRefusalLemmas
 mod NameLemmas
 mod ParseLemmas
 pub mod OutcomeFits
+pub mod Readings
 pub mod RuleNames
 mod StartLemmas
 mod StepLemmas

@@ -24,6 +24,7 @@ use Rattle.peg_parser.specs.Refusals.{HasTooMuchCode, IsIllFormed, IsNoGrammar, 
 use Rattle.peg_parser.specs.Refusals.{not_in_the_notation, count_out_of_range, too_nested, a_name_twice, a_name_missing}
 use Rattle.peg_parser.specs.Refusals.{too_many_parts, empty_loop, left_recursion}
 use Rattle.peg_parser.specs.declared.options.ParseOptions.{ParseOptions}
+use Rattle.peg_parser.proofs.Readings.{one_reading}
 use Rattle.peg_semantics.specs.Form.{Name}
 use Rattle.peg_semantics.specs.Record.{Matched, Record}
 use Rattle.peg_semantics.specs.Rules.{Rule}
@@ -42,14 +43,6 @@ use Rattle.peg_replies.specs.declared.tree_printing.TreePrinting.{TreePrinting}
 use Rattle.peg_replies.proofs.RunLemmas.{IsPrinted-front, right-held}
 
 -- ---- the reading of a file
-
--- a file has one reading
-one_reading : (file : List ℕ) (a b : List Rule) → IsReading file a → IsReading file b → a ≡ b
-one_reading file a b m n =
-    let same : m.2.0 ≡ n.2.0 = one_record figure file (Name (codes "Grammar") (between 0 0)) 0 0 m.2.0 n.2.0 m.2.1 n.2.1 in
-    let results : Matched m.0 m.1 ≡ Matched n.0 n.1 = sym m.2.2 ∙ (ap (λ (r : Record). r.result) same ∙ n.2.2) in
-    let trees : m.1 ≡ n.1 = cc in
-    m.4 ∙ (ap (rules_spelled file) trees ∙ sym n.4)
 
 -- a file is accepted with the rules of one grammar alone
 pub accepted-once : (file : List ℕ) (a b : List Rule) → Accepts file a → Accepts file b → a ≡ b

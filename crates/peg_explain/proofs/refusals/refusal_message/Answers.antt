@@ -15,7 +15,7 @@ returns-in-Notation c =
     subst (λ (why : Refusal). is_some (cause_of why) ≡ true) c.in-Notation.is place.known in
     subst (IsAnswer c.message_of.result name file) (sym c.in-Notation.is)
     (known-reason c.message_of.result name file [] (notation_cause c.in-Notation.fault) c.notation_reason.result known
-    (c.notation_reason.ensures.reason (length file) []) c.message_of.ensures)
+    (c.notation_reason.ensures.reason file []) c.message_of.ensures)
 
 pub returns-in-Grammar : goal.returns-in-Grammar
 returns-in-Grammar c =
@@ -24,9 +24,8 @@ returns-in-Grammar c =
     let place = placed (length file) c.args.refusal.now c.requires.has_cause c.requires.true_refusal in
     let known : is_some (grammar_cause c.in-Grammar.fault) ≡ true =
     subst (λ (why : Refusal). is_some (cause_of why) ≡ true) c.in-Grammar.is place.known in
-    subst (IsAnswer c.message_of-in-Grammar.result name file) (sym c.in-Grammar.is)
-    (known-reason c.message_of-in-Grammar.result name file [] (grammar_cause c.in-Grammar.fault) c.grammar_reason.result
-    known (c.grammar_reason.ensures.reason (length file) []) c.message_of-in-Grammar.ensures)
+    subst (IsAnswer c.grammar_message.result name file) (sym c.in-Grammar.is)
+    (known-cause c.grammar_message.result name file [] (grammar_cause c.in-Grammar.fault) known c.grammar_message.ensures)
 
 pub returns-in-NotWellFormed : goal.returns-in-NotWellFormed
 returns-in-NotWellFormed c =
