@@ -57,12 +57,15 @@ pub EachAtMost-prop : (limit : ℕ) (numbers : List ℕ) → IsProp (EachAtMost 
 EachAtMost-prop limit [] = Unit-prop
 EachAtMost-prop limit (number ∷ numbers) = ×_prop le_prop (EachAtMost-prop limit numbers)
 
--- a buffer of length `len` has space for a full piece and the longest possible node, given the rule names
-abbrev pub HasRoom : (len : ℕ) → List (Vec ℕ Global) → Type 0
-HasRoom len names = (65604 ≤ len) × EachAtMost (len - 65604) (map (λ name. vec_len name) names)
+-- a piece has a byte or more, and a buffer of length `len` has space for a full piece and the longest possible node,
+-- given the rule names
+abbrev pub HasRoom : (piece len : ℕ) → List (Vec ℕ Global) → Type 0
+HasRoom piece len names =
+    ((1 ≤ piece) × (piece + 68 ≤ len)) × EachAtMost (len - (piece + 68)) (map (λ name. vec_len name) names)
 
-pub HasRoom-prop : (len : ℕ) (names : List (Vec ℕ Global)) → IsProp (HasRoom len names)
-HasRoom-prop len names = ×_prop le_prop (EachAtMost-prop (len - 65604) (map (λ name. vec_len name) names))
+pub HasRoom-prop : (piece len : ℕ) (names : List (Vec ℕ Global)) → IsProp (HasRoom piece len names)
+HasRoom-prop piece len names =
+    ×_prop (×_prop le_prop le_prop) (EachAtMost-prop (len - (piece + 68)) (map (λ name. vec_len name) names))
 
 -- the printed nodes from number `at` on, their levels and their text; `ends` are the ends of the open nodes, innermost
 -- last

@@ -19,7 +19,7 @@ use crate::shows::{AllRules, Shows};
 use crate::{Names, RuleSet, Tree, TreeNode};
 use std::alloc::{AllocError, Global};
 
-// The minimum size of a piece in bytes, except for the last piece.
+// The minimum size of a piece in bytes, except for the last piece and for pieces of shorter texts.
 const PIECE: usize = 65_536;
 
 /// The JSON text of a tree's node list without the enclosing brackets, produced in pieces. All memory is allocated by
@@ -32,10 +32,12 @@ pub struct FlatTreeWriter {
     shown: Option<RuleSet>,
     at: usize,
     ends: Vec<usize>,
+    // The minimum size of a piece in bytes, except for the last one.
+    piece: usize,
     buffer: Vec<u8>,
     filled: usize,
     ghost below: { RulesBelow (length names.items) tree } by { RulesBelow-prop (length names.items) tree },
-    ghost room: { HasRoom (vec_len buffer) names.items } by { HasRoom-prop (vec_len buffer) names.items },
+    ghost room: { HasRoom piece (vec_len buffer) names.items } by { HasRoom-prop piece (vec_len buffer) names.items },
     ghost levels: { EachAtMost (vec_capacity ends) (printed_levels (printed_rows (shown_rules shown)
         (reverse ends.items) at (drop at (rows_of tree)))) } by { EachAtMost-prop (vec_capacity ends)
             (printed_levels (printed_rows (shown_rules shown) (reverse ends.items) at (drop at (rows_of tree)))) },
@@ -95,7 +97,8 @@ impl FlatTreeWriter {
         if longest > usize::MAX - PIECE - MAX_ROW_TEXT {
             return Err(AllocError);
         }
-        let buffer = zeros(alloc, PIECE + MAX_ROW_TEXT + longest)?;
+        let piece = piece_for(tree.rows().len(), MAX_ROW_TEXT + longest);
+        let buffer = zeros(alloc, piece + MAX_ROW_TEXT + longest)?;
         let ends = Vec::with_capacity(alloc, tree.depth())?;
         Ok(FlatTreeWriter {
             tree,
@@ -103,6 +106,7 @@ impl FlatTreeWriter {
             shown,
             at: 0,
             ends,
+            piece,
             buffer,
             filled: 0,
         })
@@ -119,6 +123,7 @@ impl FlatTreeWriter {
             &self.shown,
             self.at,
             &mut self.ends,
+            self.piece,
             &mut self.buffer,
         );
         self.at = filled.at;
@@ -147,11 +152,12 @@ fn fill_shown(
     shown: &Option<RuleSet>,
     from: usize,
     ends: &mut Vec<usize>,
+    piece: usize,
     buffer: &mut [u8],
 ) -> Filled
     requires tree { IsOneTree (map row_of rows.now) }
     requires below { RulesBelow (length names.now) (trees_of (map row_of rows.now)) }
-    requires room { HasRoom (length buffer.old) names.now }
+    requires room { HasRoom piece (length buffer.old) names.now }
     requires levels { EachAtMost (vec_capacity ends.old)
         (levels_from (shown_rules shown.now) rows.now from ends.old.items) }
     ensures text { text_from (shown_rules shown.now) names.now rows.now from ends.old.items
@@ -165,12 +171,12 @@ fn fill_shown(
     ensures within { result.end ≤ length buffer.new }
 {
     match shown {
-        None => fill_piece(rows, names, &AllRules, from, ends, buffer),
-        Some(set) => fill_piece(rows, names, set, from, ends, buffer),
+        None => fill_piece(rows, names, &AllRules, from, ends, piece, buffer),
+        Some(set) => fill_piece(rows, names, set, from, ends, piece, buffer),
     }
 }
 
-// Writes the shown nodes from number `from` on into the buffer, until it holds at least `PIECE` bytes or no node is
+// Writes the shown nodes from number `from` on into the buffer, until it holds at least `piece` bytes or no node is
 // left. The root is always shown.
 fn fill_piece<S: Shows>(
     rows: &[TreeNode],
@@ -178,11 +184,12 @@ fn fill_piece<S: Shows>(
     shown: &S,
     from: usize,
     ends: &mut Vec<usize>,
+    piece: usize,
     buffer: &mut [u8],
 ) -> Filled
     requires tree { IsOneTree (map row_of rows.now) }
     requires below { RulesBelow (length names.now) (trees_of (map row_of rows.now)) }
-    requires room { HasRoom (length buffer.old) names.now }
+    requires room { HasRoom piece (length buffer.old) names.now }
     requires levels { EachAtMost (vec_capacity ends.old)
         (levels_from (S.shown shown.now) rows.now from ends.old.items) }
     ensures text { text_from (S.shown shown.now) names.now rows.now from ends.old.items
@@ -195,7 +202,7 @@ fn fill_piece<S: Shows>(
 {
     let mut at = from;
     let mut end = 0;
-    while at < rows.len() && end < PIECE {
+    while at < rows.len() && end < piece {
         let row = rows[at];
         if is_written(at, row, shown) {
             close_ended(ends, at);
@@ -214,6 +221,15 @@ fn is_written<S: Shows>(at: usize, row: TreeNode, shown: &S) -> bool
     ensures { result ≡ ((at == 0) || S.shown shown.now row.rule) }
 {
     at == 0 || shown.shows(row.rule)
+}
+
+// The minimum size of a piece for so many nodes, each of whose texts has at most `row` bytes: the size of the whole text
+// if that is less than `PIECE`. So the buffer for a small tree is small.
+fn piece_for(rows: usize, row: usize) -> usize
+    ensures some { 1 ≤ result }
+    ensures limit { result ≤ 65536 }
+{
+    rows.saturating_mul(row).min(PIECE).max(1)
 }
 
 fn longest_of(names: &[Vec<u8>]) -> usize

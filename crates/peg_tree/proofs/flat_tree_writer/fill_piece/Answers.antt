@@ -24,9 +24,9 @@ write_row-end-requires g c =
     let rows = c.args.rows.now in
     let below = rule_below (length c.args.names.now) rows (trees_of (map row_of rows)) c.requires.tree refl c.requires.below
     c.loop-at.at c.index-rows-at.result c.loop-at-test.true c.index-rows-at.is in
-    let fits = name-fits (length c.args.buffer.now - 65604) c.args.names.now c.index-rows-at.result.rule c.index-names-row.result
+    let fits = name-fits (length c.args.buffer.now - (c.args.piece + 68)) c.args.names.now c.index-rows-at.result.rule c.index-names-row.result
     below c.index-names-row.is c.requires.room.1 in
-    omega (arith, fits, c.write_comma-end.ensures.limit, c.write_comma-end.ensures.puts.0, c.requires.room.0, c.deref.ensures.len, c.if-end-lt-PIECE.true)
+    omega (arith, fits, c.write_comma-end.ensures.limit, c.write_comma-end.ensures.puts.0, c.requires.room.0.1, c.deref.ensures.len, c.if-end-piece.true)
 
 pub overflow_add-at : goal.overflow_add-at
 overflow_add-at g c =

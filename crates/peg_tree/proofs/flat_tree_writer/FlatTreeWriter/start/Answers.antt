@@ -1,4 +1,4 @@
-use Rattle.std.proofs.Common.{◌≡◌, ◌-◌, ◌++◌, ◌∷◌, [], false, length, map, reverse, vec_len, ap, sym, subst, ◌∙◌, arith}
+use Rattle.std.proofs.Common.{◌≡◌, ◌-◌, ◌+◌, ◌++◌, ◌∷◌, [], false, length, map, reverse, vec_len, ap, sym, subst, ◌∙◌, arith}
 use Rattle.std.proofs.lemmas.List.{length-map}
 use Rattle.serde_json.specs.Data.{string}
 use Rattle.serde_json.specs.Written.{compact_text}
@@ -17,13 +17,14 @@ invariant_of-result g c =
     let tree = c.args.tree in
     let count : length all ≡ length names =
     sym (length-map all (λ name. compact_text (string name))) ∙ sym (ap length c.in_ok-names.ensures) ∙ length-map names (λ name. name.items) in
-    let room : vec_len c.in_ok-buffer.buffer - 65604 ≡ c.longest_of-longest.result = omega (arith, c.in_ok-buffer.ensures) in
+    let piece = c.piece_for-piece.result in
+    let room : vec_len c.in_ok-buffer.buffer - (piece + 68) ≡ c.longest_of-longest.result = omega (arith, c.in_ok-buffer.ensures) in
     let ends = c.in_ok-ends.ends in
     let rows = rows_of tree in
     record {
       below = subst (λ n. RulesBelow n tree) count c.requires;
       room = (
-        omega (arith, c.in_ok-buffer.ensures),
+        (c.piece_for-piece.ensures.some, omega (arith, c.in_ok-buffer.ensures)),
         subst (λ n. EachAtMost n (map (λ name. vec_len name) names)) (sym room)
             (subst (λ l. EachAtMost c.longest_of-longest.result (map (λ name. vec_len name) l)) c.deref.ensures.value c.longest_of-longest.ensures),
       );
