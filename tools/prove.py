@@ -3,9 +3,9 @@
 
 `rt` proves one library after the other, and much of a proof runs on one core. So each of a few workers has a copy of the
 crates, and proves there a library when those that it uses are proved. What it has built is copied into the repository,
-and from there to the workers that need it, so that each library is proved once. The library with the longest chain of
-others above it gets all cores; those with a much shorter one get what is left. What fails in a copy fails again in the
-last run of `rt`, which says why. The arguments are the crate and those of `rt`.
+and from there to the workers that need it, so that each library is proved once. The cores are shared among the libraries
+with the longest chains of others above them; those with much shorter ones get what is left. What fails in a copy fails
+again in the last run of `rt`, which says why. The arguments are the crate and those of `rt`.
 """
 
 import os
@@ -19,7 +19,7 @@ from pathlib import Path
 TOP = Path(__file__).resolve().parent.parent
 RT = TOP / "tools" / "rt.py"
 BYTES_PER_WORKER = 3_300_000_000
-# A library whose chain is a smaller share of the longest one is proved with a lower priority.
+# A library whose chain is a smaller share of the longest one isn't urgent: it is proved with a lower priority.
 URGENT_SHARE = 0.6
 # So that libraries of lower priority don't keep others waiting, there are more workers than cores.
 WORKERS_PER_CORE = 1.5
@@ -72,18 +72,14 @@ def hand_over(part, crate, source, target):
         shutil.copytree(made, taken)
 
 
-def prove(folder, crate, below, share):
-    """Proves and builds a library in a copy, given the libraries below it and its share of the longest chain. Copies what
-    was built into the repository. Returns whether the library is proved."""
+def prove(folder, crate, below, jobs):
+    """Proves and builds a library in a copy, given the libraries below it and the number of jobs: none if it isn't urgent.
+    Copies what was built into the repository. Returns whether the library is proved."""
     for low in below:
         if not (folder / "crates" / low / "out" / "rlib" / "stamp").exists():
             hand_over("rlib", low, TOP, folder)
-    if share == 1:
-        words = [RT, "lib"]
-    elif share >= URGENT_SHARE:
-        words = [RT, "lib", "--jobs", "2"]
-    else:
-        words = ["nice", RT, "lib", "--jobs", "1"]
+    # A second job costs processor time: each has to load the libraries below.
+    words = [RT, "lib", "--jobs", str(jobs)] if jobs else ["nice", RT, "lib", "--jobs", "1"]
     done = subprocess.run(words, cwd=folder / "crates" / crate, stdout=subprocess.DEVNULL, stderr=subprocess.DEVNULL)
     if done.returncode == 0:
         hand_over("incremental", crate, folder, TOP)
@@ -99,11 +95,13 @@ def prove_all(libraries, folders):
     with ThreadPoolExecutor(len(folders)) as pool:
         while True:
             ready = [name for name in left if proved.issuperset(libraries[name])]
+            begun = [*ready, *(name for name, _ in running.values())]
+            urgent = [name for name in begun if chain[name] >= URGENT_SHARE * max(chain[other] for other in begun)]
             for name in ready[: len(free)]:
                 left.remove(name)
-                share = chain[name] / max(chain[other] for other in [name, *(other for other, _ in running.values())])
                 folder = free.pop()
-                running[pool.submit(prove, folder, name, libraries[name], share)] = name, folder
+                jobs = max(cores() // len(urgent), 1) if name in urgent else 0
+                running[pool.submit(prove, folder, name, libraries[name], jobs)] = name, folder
             if not running:
                 return
             for task in wait(running, return_when=FIRST_COMPLETED).done:
@@ -114,12 +112,17 @@ def prove_all(libraries, folders):
                     print(f"{name} is proved, {len(proved)} of {len(libraries)}", file=sys.stderr, flush=True)
 
 
+def cores():
+    """The number of cores that this process may use."""
+    return len(os.sched_getaffinity(0))
+
+
 def workers():
     """The number of workers: one and a half for each core, as long as there is memory for them."""
     with open("/proc/meminfo", encoding="utf-8") as file:
         kibibytes = next(int(line.split()[1]) for line in file if line.startswith("MemAvailable:"))
     fitting = kibibytes * 1024 // BYTES_PER_WORKER
-    return max(min(int(len(os.sched_getaffinity(0)) * WORKERS_PER_CORE), fitting), 1)
+    return max(min(int(cores() * WORKERS_PER_CORE), fitting), 1)
 
 
 def main(crate, *words):
