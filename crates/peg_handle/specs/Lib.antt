@@ -6,6 +6,8 @@ pub mod Levels
 pub mod Nodes
 pub mod PrintedLines
 pub mod ReadFaults
+pub mod RecordTasks
+pub mod Records
 pub mod RefusalInfos
 pub mod Rejections
 pub mod Selections

@@ -13,6 +13,9 @@ mod parsing;
 mod printing;
 mod printing_calls;
 mod reading;
+mod record_answers;
+mod record_calls;
+mod records;
 mod refusal_info;
 mod rejection;
 mod rule_names;
@@ -43,6 +46,8 @@ pub use printing_calls::{
     copy_line_of, print_code_of, print_table_of, print_warnings_of, write_rule_number,
 };
 pub use reading::{ReadFault, read, read_explainer};
+pub use record_calls::parse_records_by;
+pub use records::{RecordProgress, RecordTask, TextRecord, parse_records};
 pub use refusal_info::RefusalInfo;
 pub use rule_names::copy_rule_name;
 pub use selecting::{parse_selecting, read_selecting};

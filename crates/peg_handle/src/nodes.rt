@@ -1,5 +1,5 @@
 //! The nodes of trees, for C.
-ghost use Rattle.std.specs.Prelude.{◌≡◌, ℕ, ◌+◌, ◌-◌, ◌≤◌, ◌<◌, length, map, min, slice_get, Some};
+ghost use Rattle.std.specs.Prelude.{◌≡◌, ℕ, ◌+◌, ◌-◌, ◌++◌, ◌≤◌, ◌<◌, drop, length, map, min, slice_get, Some, take};
 ghost use Rattle.peg_tree.specs.Rows.{row_of};
 ghost use Rattle.peg_handle.specs.Nodes.{match_nodes, nodes_of_rows};
 
@@ -47,6 +47,32 @@ fn copy_rows(nodes: &[TreeNode], levels: &[usize], from: usize, out: &mut [Node]
         out[i] = node_at(nodes, levels, from + i);
     }
     count
+}
+
+/// Writes the nodes of an answer after the first `used` nodes of `out`.
+pub(crate) fn append_nodes(found: &Match, used: usize, out: &mut [Node])
+    requires { used + length (match_nodes found.now) ≤ length out.old }
+    ensures added { take (used + length (match_nodes found.now)) out.new ≡ take used out.old ++ match_nodes found.now }
+    ensures others { drop (used + length (match_nodes found.now)) out.new
+        ≡ drop (used + length (match_nodes found.now)) out.old }
+{
+    match &found.answer.outcome.result {
+        Parsed::Matched { tree, .. } => append_rows(tree.nodes(), &found.levels, used, out),
+        Parsed::Failed => {}
+    }
+}
+
+// Writes the nodes of a list, with these levels, after the first `used` nodes of `out`.
+fn append_rows(nodes: &[TreeNode], levels: &[usize], used: usize, out: &mut [Node])
+    requires levels { length levels.now ≡ length nodes.now }
+    requires room { used + length nodes.now ≤ length out.old }
+    ensures added { take (used + length nodes.now) out.new
+        ≡ take used out.old ++ nodes_of_rows (map row_of nodes.now) levels.now }
+    ensures others { drop (used + length nodes.now) out.new ≡ drop (used + length nodes.now) out.old }
+{
+    'nodes: for i in 0..nodes.len() {
+        out[used + i] = node_at(nodes, levels, i);
+    }
 }
 
 // The node of a list with this number, with its level.
