@@ -1,3 +1,4 @@
 mod FileLemmas
 mod ReplyLemmas
 mod RunLemmas
+pub mod StreamLemmas
