@@ -3,12 +3,13 @@ use Rattle.std.proofs.Common.{◌≡◌, ℕ, IfSome, List, Ok, Option, None, So
 use Rattle.peg_blame.specs.BlameOutcome.{IsBlameOutcome}
 use Rattle.peg_grammar.specs.Outcomes.{IsParseOutcome}
 use Rattle.peg_machine.specs.declared.answer.Answer.{Answer}
+use Rattle.peg_messages.specs.declared.lines.TextLines.{TextLines}
 use Rattle.peg_parser.specs.Calls.{IsSumOfSteps}
 use Rattle.peg_parser.specs.ParseContract.{HasParseSteps}
 use Rattle.peg_semantics.specs.Rules.{Rule}
 use Rattle.peg_tree.specs.declared.outcome.Outcome.{Outcome}
-use Rattle.peg_explain.specs.Explanations.{AreRestsFor, HasNoBlameParser, HasStepsWithin, IsExplained, IsExplanation}
-use Rattle.peg_explain.specs.Explanations.{IsMismatchIn, IsMismatchMessage, ItemFacts, by_blame, by_tests, facts_by_blame}
+use Rattle.peg_explain.specs.Explanations.{AreRestsFor, HasNoBlameParser, HasStepsWithin, IsExplained, IsExplanationIn}
+use Rattle.peg_explain.specs.Explanations.{IsMismatchIn, IsMismatchMessageIn, ItemFacts, by_blame, by_tests, facts_by_blame}
 use Rattle.peg_explain.specs.Explanations.{facts_by_tests, left_out_spacing}
 use Rattle.peg_explain.specs.declared.mismatch.Mismatch.{Mismatch}
 use Rattle.peg_explain.specs.declared.names.Rest.{Rest}
@@ -35,25 +36,25 @@ tests-explain rules style text None outcome Says lacks parsed says = tt
 tests-explain rules style text (Some start) outcome Says lacks parsed says = by_tests outcome lacks parsed says
 
 -- the message for the mismatch in a text is its explanation
-pub message-explains : (file : List ℕ) (rules : List Rule) (style : ItemStyle) (name text : List ℕ)
+pub message-explains : (file : List ℕ) (rules : List Rule) (style : ItemStyle) (lines : TextLines) (name text : List ℕ)
     (found : Option (List ℕ)) (mismatch : Mismatch) (message : List ℕ)
     → IfSome found (λ start. IsMismatchIn rules style text start (Some mismatch))
-    → IsMismatchMessage file rules style name text mismatch message
-    → IfSome found (λ start. IsExplanation file rules style name text start (Some message))
-message-explains file rules style name text None mismatch message is written = tt
-message-explains file rules style name text (Some start) mismatch message (by_blame outcome blamed rests are says) written =
+    → IsMismatchMessageIn file rules style lines name text mismatch message
+    → IfSome found (λ start. IsExplanationIn file rules style lines name text start (Some message))
+message-explains file rules style lines name text None mismatch message is written = tt
+message-explains file rules style lines name text (Some start) mismatch message (by_blame outcome blamed rests are says) written =
     by_blame outcome blamed rests are (mismatch, says, written)
-message-explains file rules style name text (Some start) mismatch message (by_tests outcome lacks parsed says) written =
+message-explains file rules style lines name text (Some start) mismatch message (by_tests outcome lacks parsed says) written =
     by_tests outcome lacks parsed (mismatch, says, written)
 
 -- a text without a mismatch has no message
-pub no_message-explains : (file : List ℕ) (rules : List Rule) (style : ItemStyle) (name text : List ℕ)
-    (found : Option (List ℕ)) → IfSome found (λ start. IsMismatchIn rules style text start None)
-    → IfSome found (λ start. IsExplanation file rules style name text start None)
-no_message-explains file rules style name text None is = tt
-no_message-explains file rules style name text (Some start) (by_blame outcome blamed rests are says) =
+pub no_message-explains : (file : List ℕ) (rules : List Rule) (style : ItemStyle) (lines : TextLines)
+    (name text : List ℕ) (found : Option (List ℕ)) → IfSome found (λ start. IsMismatchIn rules style text start None)
+    → IfSome found (λ start. IsExplanationIn file rules style lines name text start None)
+no_message-explains file rules style lines name text None is = tt
+no_message-explains file rules style lines name text (Some start) (by_blame outcome blamed rests are says) =
     by_blame outcome blamed rests are says
-no_message-explains file rules style name text (Some start) (by_tests outcome lacks parsed says) =
+no_message-explains file rules style lines name text (Some start) (by_tests outcome lacks parsed says) =
     by_tests outcome lacks parsed says
 
 -- the steps of a parse that has an answer stay within the limit

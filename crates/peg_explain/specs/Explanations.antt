@@ -15,6 +15,8 @@ use Rattle.peg_diagnostics.specs.declared.kinds.ItemKind.{ItemKind}
 use Rattle.peg_grammar.specs.Outcomes.{IsParseOutcome}
 use Rattle.peg_messages.specs.Failures.{failure_message}
 use Rattle.peg_messages.specs.declared.failure.Failure.{Failure}
+use Rattle.peg_messages.specs.declared.lines.TextLines.{TextLines}
+use Rattle.peg_messages.specs.declared.lines.TextLines.TheVariants.{File}
 use Rattle.peg_machine.specs.declared.answer.Answer.{Answer}
 use Rattle.peg_messages.specs.declared.items.Item.{Item}
 use Rattle.peg_parser.specs.Calls.{IsSumOfSteps}
@@ -184,11 +186,12 @@ in_file_order rules style named (item ∷ items) =
     map (rule_item rules) (take before named)
     ++ shown_item rules style item ∷ in_file_order rules style (drop before named) items
 
--- a failure shows a mismatch in a text
-pub record IsFailureOf (file : List ℕ) (rules : List Rule) (style : ItemStyle) (name text : List ℕ) (mismatch : Mismatch)
-    (failure : Failure) : Type 0 where
+-- a failure shows a mismatch in a text with these lines
+pub record IsFailureOf (file : List ℕ) (rules : List Rule) (style : ItemStyle) (lines : TextLines) (name text : List ℕ)
+    (mismatch : Mismatch) (failure : Failure) : Type 0 where
   pub named : failure.name.now ≡ name
   pub has_text : failure.text.now ≡ text
+  pub has_lines : failure.lines ≡ lines
   pub has_grammar : failure.grammar.now ≡ file
   pub at : failure.at ≡ mismatch.at
   pub items : map message_item_of failure.expected.now
@@ -200,20 +203,26 @@ abbrev pub note_text : Analysis → List ℕ
 note_text Items = []
 note_text Tests = codes "note: failures in predicates are included\n"
 
--- the message for a mismatch, and its note
+-- the message for a mismatch in a text with these lines, and its note
+abbrev pub IsMismatchMessageIn : (file : List ℕ) → List Rule → ItemStyle → TextLines → (name text : List ℕ) → Mismatch
+    → (message : List ℕ) → Type 0
+IsMismatchMessageIn file rules style lines name text mismatch message =
+    (failure : Failure) × IsFailureOf file rules style lines name text mismatch failure
+    × (message ≡ failure_message failure ++ note_text mismatch.analysis)
+
+-- the message for a mismatch in a file
 abbrev pub IsMismatchMessage : (file : List ℕ) → List Rule → ItemStyle → (name text : List ℕ) → Mismatch
     → (message : List ℕ) → Type 0
 IsMismatchMessage file rules style name text mismatch message =
-    (failure : Failure) × IsFailureOf file rules style name text mismatch failure
-    × (message ≡ failure_message failure ++ note_text mismatch.analysis)
+    IsMismatchMessageIn file rules style File name text mismatch message
 
 -- There is no message for a text that has no mismatch. Otherwise it is the message for the mismatch of the outcome.
-abbrev pub HasMessage : (file : List ℕ) → List Rule → ItemStyle → ItemFacts → (name text : List ℕ) → Outcome
-    → Option (List ℕ) → Type 0
-HasMessage file rules style facts name text outcome None = HasMismatch facts text outcome None
-HasMessage file rules style facts name text outcome (Some message) = (mismatch : Mismatch)
+abbrev pub HasMessage : (file : List ℕ) → List Rule → ItemStyle → ItemFacts → TextLines → (name text : List ℕ)
+    → Outcome → Option (List ℕ) → Type 0
+HasMessage file rules style facts lines name text outcome None = HasMismatch facts text outcome None
+HasMessage file rules style facts lines name text outcome (Some message) = (mismatch : Mismatch)
     × HasMismatch facts text outcome (Some mismatch)
-    × IsMismatchMessage file rules style name text mismatch message
+    × IsMismatchMessageIn file rules style lines name text mismatch message
 
 -- Something besides spacing is expected: the end of the text, or one of the items that a message looks at.
 abbrev pub is_more_expected : (spacing : List Bool) → (rules_of_items : List ℕ) → Outcome → Bool
@@ -266,12 +275,19 @@ abbrev pub IsMismatchIn : List Rule → ItemStyle → (text start : List ℕ) �
 IsMismatchIn rules style text start mismatch =
     IsExplained rules style text start (λ facts outcome. HasMismatch facts text outcome mismatch)
 
--- the explanation of a text from a start rule: the message, or nothing for a text that matches as a whole
+-- The explanation of a text with these lines from a start rule: the message, or nothing for a text that matches as a
+-- whole.
+abbrev pub IsExplanationIn : (file : List ℕ) → List Rule → ItemStyle → TextLines → (name text start : List ℕ)
+    → Option (List ℕ) → Type 0
+IsExplanationIn file rules style lines name text start message =
+    IsExplained rules style text start
+    (λ facts outcome. HasMessage file rules style facts lines name text outcome message)
+
+-- the explanation of a file
 abbrev pub IsExplanation : (file : List ℕ) → List Rule → ItemStyle → (name text start : List ℕ) → Option (List ℕ)
     → Type 0
 IsExplanation file rules style name text start message =
-    IsExplained rules style text start
-    (λ facts outcome. HasMessage file rules style facts name text outcome message)
+    IsExplanationIn file rules style File name text start message
 
 -- The parse that an explanation needs takes more steps than the limit: the parse by the diagnostic rules if the rules
 -- have a parser of blame, else the parse by the rules themselves.

@@ -19,7 +19,8 @@ ghost use Rattle.peg_grammar.specs.GrammarRules.{rules_in};
 ghost use Rattle.std.specs.List.{prefix_len};
 ghost use Rattle.peg_explain.specs.Explanations.{AreRestsBy, ExplainingAnswersWithin, ExplainingStaysWithin};
 ghost use Rattle.peg_explain.specs.Explanations.{ExplainingTakesMoreSteps};
-ghost use Rattle.peg_explain.specs.Explanations.{HasMismatch, IsExplanation, IsMismatchIn, IsMismatchMessage, ItemFacts};
+ghost use Rattle.peg_explain.specs.Explanations.{HasMismatch, IsExplanation, IsExplanationIn, IsMismatchIn};
+ghost use Rattle.peg_explain.specs.Explanations.{IsMismatchMessage, IsMismatchMessageIn, ItemFacts};
 ghost use Rattle.peg_explain.specs.Explanations.{defined_extent, expected_items, fact_of, facts_by_blame};
 ghost use Rattle.peg_explain.specs.Explanations.{in_file_order, is_before, left_out_spacing, message_item_of, note_text};
 ghost use Rattle.peg_explain.specs.Explanations.{rule_item, rule_name, shown_item, worded_item};
@@ -38,7 +39,7 @@ use crate::style::ItemStyle;
 use peg_blame::BlameParser;
 use peg_bytes::Span;
 use peg_grammar::Grammar;
-use peg_messages::{Failure, Item};
+use peg_messages::{Failure, Item, TextLines};
 use peg_parser::{Answer, ParseFault, ParseOptions, Parser};
 use peg_spacing::spacing_rules;
 use peg_tree::{Outcome, RuleSet};
@@ -144,8 +145,47 @@ impl<'a> Explainer<'a> {
         ensures within { (file : List ℕ) (rules : List Rule) → IsExplainerOf file rules self.now
             → OnOk result (ExplainingAnswersWithin rules text.now (start_named options.now) options.now.steps) }
     {
+        self.explain_in(alloc, name, TextLines::File, text, options)
+    }
+
+    /// Returns what `explain` returns, for a text that may be a part of a file: the message has the line and the column
+    /// of the file.
+    ///
+    /// # Example
+    ///
+    /// ```
+    /// let lines = TextLines::Part { line_feeds: 2 };
+    /// let message = explainer.explain_in(alloc, b"a.log", lines, third_line, &options)?;
+    /// ```
+    pub fn explain_in(
+        &self,
+        alloc: Global,
+        name: &[u8],
+        lines: TextLines,
+        text: &[u8],
+        options: &ParseOptions<'_>,
+    ) -> Result<Option<Vec<u8>>, ParseFault>
+        ensures no_start { (file : List ℕ) (rules : List Rule) → IsExplainerOf file rules self.now
+            → (IsErrOf result ParseFault.NoSuchStart ↔ (start_name rules (start_named options.now) ≡ None)) }
+        ensures long { (file : List ℕ) (rules : List Rule) (start : List ℕ) → IsExplainerOf file rules self.now
+            → start_name rules (start_named options.now) ≡ Some start
+            → (IsErrOf result ParseFault.TextTooLong ↔ (max_text_bytes < length text.now)) }
+        ensures short { OnOk result (length text.now ≤ max_text_bytes) }
+        ensures explanation { (file : List ℕ) (rules : List Rule) → IsExplainerOf file rules self.now
+            → IfOk result (λ message. IfSome (start_name rules (start_named options.now))
+            (λ start. IsExplanationIn file rules self.now.style lines name.now text.now start
+            (option_map (λ bytes. bytes.items) message))) }
+        ensures limited { (file : List ℕ) (rules : List Rule) → IsExplainerOf file rules self.now
+            → IsErrOf result ParseFault.StepLimit
+            → ExplainingTakesMoreSteps rules text.now (start_named options.now) options.now.steps }
+        ensures enough { (file : List ℕ) (rules : List Rule) → IsExplainerOf file rules self.now
+            → options.now.memo ≡ 0 → OnOk result
+            (ExplainingStaysWithin rules text.now (start_named options.now) options.now.steps) }
+        ensures within { (file : List ℕ) (rules : List Rule) → IsExplainerOf file rules self.now
+            → OnOk result (ExplainingAnswersWithin rules text.now (start_named options.now) options.now.steps) }
+    {
         match self.mismatch(alloc, text, options)? {
-            Some(mismatch) => Ok(Some(self.message(alloc, name, text, &mismatch)?)),
+            Some(mismatch) => Ok(Some(self.message_in(alloc, name, lines, text, &mismatch)?)),
             None => Ok(None),
         }
     }
@@ -321,10 +361,30 @@ impl<'a> Explainer<'a> {
             → IfOk result (λ message. IsMismatchMessage file rules self.now.style name.now text.now mismatch.now
             message.items) }
     {
+        self.message_in(alloc, name, TextLines::File, text, mismatch)
+    }
+
+    // Returns the same for a text with these lines.
+    fn message_in(
+        &self,
+        alloc: Global,
+        name: &[u8],
+        lines: TextLines,
+        text: &[u8],
+        mismatch: &Mismatch,
+    ) -> Result<Vec<u8>, AllocError>
+        requires short { length text.now ≤ max_text_bytes }
+        requires in_text { mismatch.now.at ≤ length text.now }
+        requires few { length mismatch.now.rules.items + length mismatch.now.expected.items < 2 ^ 32 }
+        ensures { (file : List ℕ) (rules : List Rule) → IsExplainerOf file rules self.now
+            → IfOk result (λ message. IsMismatchMessageIn file rules self.now.style lines name.now text.now
+            mismatch.now message.items) }
+    {
         let items = self.message_items(alloc, &mismatch.rules, &mismatch.expected)?;
         let failure = Failure {
             name,
             text,
+            lines,
             grammar: self.file,
             at: mismatch.at,
             expected: &items,

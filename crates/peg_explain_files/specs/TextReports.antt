@@ -4,10 +4,12 @@ use Rattle.std.specs.Str.{IsUtf8}
 use Rattle.std.specs.declared.alloc.Global.{Global}
 use Rattle.std.specs.declared.vec.Vec.{Vec}
 use Rattle.peg_explain.specs.Explanations.{ExplainingAnswersWithin, ExplainingStaysWithin, ExplainingTakesMoreSteps}
-use Rattle.peg_explain.specs.Explanations.{IsExplanation}
+use Rattle.peg_explain.specs.Explanations.{IsExplanationIn}
 use Rattle.peg_explain.specs.declared.style.ItemStyle.{ItemStyle}
 use Rattle.peg_grammar.specs.Limits.{max_text_bytes}
 use Rattle.peg_io.specs.NamedFile.{NamedFile}
+use Rattle.peg_messages.specs.declared.lines.TextLines.{TextLines}
+use Rattle.peg_messages.specs.declared.lines.TextLines.TheVariants.{File}
 use Rattle.peg_semantics.specs.Rules.{Rule}
 use Rattle.peg_semantics.specs.Starts.{start_name}
 use Rattle.peg_explain_files.specs.Contents.{IsContentOf}
@@ -16,21 +18,27 @@ use Rattle.peg_explain_files.specs.declared.content.Content.TheVariants.{Bytes, 
 use Rattle.peg_explain_files.specs.declared.reports.TextReport.{TextReport}
 use Rattle.peg_explain_files.specs.declared.reports.TextReport.TheVariants as report
 
--- What is reported of a text from a start rule: nothing, if it matches as a whole; a message, if it doesn't; or that it
--- or its parse is over a limit. The steps of the parse stay within the limit, with a memo, too. Without a memo, a parse
--- over the limit of steps is always reported as such.
-pub data IsReport (file : List ℕ) (rules : List Rule) (style : ItemStyle) (start : Option (List ℕ)) (memo : ℕ) (steps : Option ℕ)
-    (name text : List ℕ) : TextReport → Type 0 where
-  matches : {from : List ℕ} → start_name rules start ≡ Some from → IsExplanation file rules style name text from None
+-- What is reported of a text with these lines from a start rule: nothing, if it matches as a whole; a message, if it
+-- doesn't; or that it or its parse is over a limit. The steps of the parse stay within the limit, with a memo, too. Without
+-- a memo, a parse over the limit of steps is always reported as such.
+pub data IsReportIn (file : List ℕ) (rules : List Rule) (style : ItemStyle) (start : Option (List ℕ)) (memo : ℕ) (steps : Option ℕ)
+    (lines : TextLines) (name text : List ℕ) : TextReport → Type 0 where
+  matches : {from : List ℕ} → start_name rules start ≡ Some from → IsExplanationIn file rules style lines name text from None
       → (memo ≡ 0 → ExplainingStaysWithin rules text start steps) → ExplainingAnswersWithin rules text start steps
-      → IsReport file rules style start memo steps name text report.Matches
+      → IsReportIn file rules style start memo steps lines name text report.Matches
   differs : {from : List ℕ} {message : Vec ℕ Global} → start_name rules start ≡ Some from
-      → IsExplanation file rules style name text from (Some message.items)
+      → IsExplanationIn file rules style lines name text from (Some message.items)
       → (memo ≡ 0 → ExplainingStaysWithin rules text start steps) → ExplainingAnswersWithin rules text start steps
-      → IsReport file rules style start memo steps name text (report.Differs message)
-  too_long : max_text_bytes < length text → IsReport file rules style start memo steps name text report.TooLong
+      → IsReportIn file rules style start memo steps lines name text (report.Differs message)
+  too_long : max_text_bytes < length text → IsReportIn file rules style start memo steps lines name text report.TooLong
   too_many_steps : ExplainingTakesMoreSteps rules text start steps
-      → IsReport file rules style start memo steps name text report.TooManySteps
+      → IsReportIn file rules style start memo steps lines name text report.TooManySteps
+
+-- what is reported of the text of a file
+abbrev pub IsReport : (file : List ℕ) → List Rule → ItemStyle → (start : Option (List ℕ)) → (memo : ℕ)
+    → (steps : Option ℕ) → (name text : List ℕ) → TextReport → Type 0
+IsReport file rules style start memo steps name text result =
+    IsReportIn file rules style start memo steps File name text result
 
 -- what is reported of what is read of a text
 abbrev pub IsReportBy : (IsRight : List ℕ → TextReport → Type 0) → Content → TextReport → Type 0

@@ -18,4 +18,4 @@ pub use explaining::{explain_files, has_start, unread_grammar, write_no_start, w
 pub use peg_explain::ItemStyle;
 pub use printing::{Printing, write_alone, write_printed};
 pub use query::{NameEnd, Query};
-pub use reports::{TextReport, report_of_name};
+pub use reports::{TextReport, report_of_name, report_of_text};

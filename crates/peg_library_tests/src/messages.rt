@@ -6,7 +6,7 @@ ghost use Rattle.peg_parser.specs.Faults.{IsTrueRefusal};
 use peg_bytes::Span;
 use peg_explain::refusal_message;
 use peg_grammar::{GrammarFault, MAX_PARTS};
-use peg_messages::{Failure, Item, SyntaxCause, syntax_cause};
+use peg_messages::{Failure, Item, SyntaxCause, TextLines, syntax_cause};
 use peg_parser::Refusal;
 use std::alloc::Global;
 use std::process::Abort;
@@ -23,6 +23,7 @@ fn assert_listed(
     let failure = Failure {
         name: b"t",
         text: b"z",
+        lines: TextLines::File,
         grammar,
         at: 0,
         expected,

@@ -33,7 +33,7 @@ found_bytes failure =
 -- the place, what is expected and found there, its line, and a caret below it
 abbrev pub failure_message : Failure → List ℕ
 failure_message failure =
-    place_text failure.name.now failure.text.now failure.at
+    place_text failure.name.now failure.lines failure.text.now failure.at
     ++ codes "expected " ++ listed (expected_texts failure)
     ++ codes ", found " ++ found_text failure.text.now failure.at (found_bytes failure) ++ codes "\n"
-    ++ source_lines failure.text.now failure.at
+    ++ source_lines failure.lines failure.text.now failure.at

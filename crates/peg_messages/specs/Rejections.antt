@@ -6,6 +6,7 @@ use Rattle.peg_messages.specs.Source.{source_lines}
 use Rattle.peg_messages.specs.SyntaxCauses.{syntax_cause}
 use Rattle.peg_messages.specs.declared.causes.SyntaxCause.{SyntaxCause}
 use Rattle.peg_messages.specs.declared.causes.SyntaxCause.TheVariants.{BadEscape}
+use Rattle.peg_messages.specs.declared.lines.TextLines.TheVariants.{File}
 use Rattle.peg_messages.specs.declared.reason.Reason.{Reason}
 use Rattle.peg_messages.specs.declared.reason.Reason.TheVariants as reason
 use Rattle.peg_messages.specs.declared.rejection.Rejection.{Rejection}
@@ -37,12 +38,12 @@ named_offset file other = given_offset other
 -- what precedes the sentence: `NAME:LINE:COLUMN: ` or `NAME: `
 abbrev pub head_text : (name file : List ℕ) → Option ℕ → List ℕ
 head_text name file None = name ++ codes ": "
-head_text name file (Some at) = place_text name file at
+head_text name file (Some at) = place_text name File file at
 
 -- what follows its line: the line of the offset, and a caret below it
 abbrev pub tail_text : (file : List ℕ) → Option ℕ → List ℕ
 tail_text file None = []
-tail_text file (Some at) = source_lines file at
+tail_text file (Some at) = source_lines File file at
 
 -- the message
 abbrev pub rejection_message : Rejection → List ℕ

@@ -2,17 +2,21 @@
 use Rattle.std.specs.Prelude.{ℕ, ◌+◌, ◌-◌, ◌==◌, Bool, not, ◌&&◌, if◌then◌else◌, nat_le, nat_lt}
 use Rattle.std.specs.Prelude.{List, ◌++◌, drop, codes, slice_index, slice_range}
 use Rattle.std.specs.List.{take_while}
-use Rattle.peg_bytes.specs.Place.{carriage_return, column_at, line_feed}
+use Rattle.peg_bytes.specs.Place.{carriage_return, line_feed}
+use Rattle.peg_messages.specs.Places.{column_in}
 use Rattle.peg_messages.specs.Shown.{shown}
+use Rattle.peg_messages.specs.declared.lines.TextLines.{TextLines}
+use Rattle.peg_messages.specs.declared.lines.TextLines.TheVariants.{File, Part}
 use Rattle.peg_messages.specs.declared.shown.Style.TheVariants.{Line, Blanks}
 
--- neither LF nor CR
-abbrev pub is_in_line : ℕ → Bool
-is_in_line byte = not (byte == line_feed) && not (byte == carriage_return)
+-- neither LF nor CR; in a part of a file, not LF
+abbrev pub is_in_line : TextLines → ℕ → Bool
+is_in_line File byte = not (byte == line_feed) && not (byte == carriage_return)
+is_in_line (Part line_feeds) byte = not (byte == line_feed)
 
 -- the line of a text that begins at an offset, without its line end
-abbrev pub line_from : List ℕ → (start : ℕ) → List ℕ
-line_from text start = take_while is_in_line (drop start text)
+abbrev pub line_from : TextLines → List ℕ → (start : ℕ) → List ℕ
+line_from lines text start = take_while (is_in_line lines) (drop start text)
 
 -- the byte at an offset of a line continues a UTF-8 sequence
 abbrev pub continues : List ℕ → ℕ → Bool
@@ -48,8 +52,8 @@ abbrev pub caret_line : List ℕ → (at : ℕ) → List ℕ
 caret_line line at = shown Blanks (before_position line at) ++ codes "^\n"
 
 -- the line of a position of a text, and a caret below the position
-abbrev pub source_lines : (text : List ℕ) → (at : ℕ) → List ℕ
-source_lines text at =
-    let column = column_at text at - 1 in
-    let line = line_from text (at - column) in
+abbrev pub source_lines : TextLines → (text : List ℕ) → (at : ℕ) → List ℕ
+source_lines lines text at =
+    let column = column_in lines text at - 1 in
+    let line = line_from lines text (at - column) in
     shown_line line column ++ caret_line line column

@@ -6,6 +6,7 @@ ghost use Rattle.peg_messages.specs.Listings.{IsListing, bytes_of_each};
 
 use crate::found::{longest_literal, write_found};
 use crate::items::{Item, ItemGroup, is_in_group, item_text};
+use crate::lines::TextLines;
 use crate::listing::Listing;
 use crate::numbers::write_place;
 use crate::source::write_source;
@@ -17,6 +18,8 @@ pub struct Failure<'a> {
     /// The name of the text, which begins the message.
     pub name: &'a [u8],
     pub text: &'a [u8],
+    /// The lines of the text, which the place and the shown line are in.
+    pub lines: TextLines,
     /// The grammar file, which the spans of the items refer to.
     pub grammar: &'a [u8],
     /// The position of the failure: an offset of the text.
@@ -33,7 +36,8 @@ impl Failure<'_> {
     ghost use Rattle.peg_messages.specs.Listings.{IsListed};
 
     /// Appends the message for a failure: `NAME:LINE:COLUMN: expected A, B or C, found 'D'`, then the line of the
-    /// position and a caret below the position. Each line ends with LF.
+    /// position and a caret below the position. Each line ends with LF. The line and the column are those of the text's
+    /// file.
     ///
     /// An item that isn't left out is written as in the grammar file. A dot is written `any byte`. The predicate `!e` is written `something
     /// other than e`, after all others. `!.` is `the end`, like the end of the text if it is expected. The end is
@@ -61,6 +65,7 @@ impl Failure<'_> {
     /// let failure = Failure {
     ///     name: b"ab.txt",
     ///     text: b"xb",
+    ///     lines: TextLines::File,
     ///     grammar: b"S <- 'a' 'b'",
     ///     at: 0,
     ///     expected: &expected,
@@ -88,13 +93,13 @@ impl Failure<'_> {
         ensures { IfOk result (λ message. message.items ≡ failure_message self.now) }
     {
         let mut message = Vec::new(alloc);
-        write_place(self.name, self.text, self.at, &mut message)?;
+        write_place(self.name, self.lines, self.text, self.at, &mut message)?;
         message.extend_from_slice(b"expected ")?;
         self.write_expected(alloc, &mut message)?;
         message.extend_from_slice(b", found ")?;
         write_found(self.text, self.at, self.found_bytes(), &mut message)?;
         message.extend_from_slice(b"\n")?;
-        write_source(self.text, self.at, &mut message)?;
+        write_source(self.lines, self.text, self.at, &mut message)?;
         Ok(message)
     }
 

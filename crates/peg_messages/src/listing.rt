@@ -87,7 +87,7 @@ fn more_text(alloc: Global, count: u64) -> Result<Vec<u8>, AllocError>
     ensures { IfOk result (λ text. text.items ≡ decimal count ++ codes " more") }
 {
     let mut text = Vec::new(alloc);
-    write_number(count, &mut text)?;
+    write_number(u128::from(count), &mut text)?;
     text.extend_from_slice(b" more")?;
     Ok(text)
 }

@@ -5,6 +5,7 @@ ghost use Rattle.peg_messages.specs.SyntaxCauses.{syntax_cause};
 ghost use Rattle.peg_messages.specs.Rejections.{cause_offset, given_offset, head_text, named_offset, tail_text};
 
 use crate::causes::SyntaxCause;
+use crate::lines::TextLines;
 use crate::numbers::write_place;
 use crate::reason::Reason;
 use crate::sentences::write_sentence;
@@ -129,7 +130,7 @@ fn write_head(
     ensures { OnOk result (out.new.items ≡ out.old.items ++ head_text name.now file.now at) }
 {
     match at {
-        Some(at) => write_place(name, file, at, out),
+        Some(at) => write_place(name, TextLines::File, file, at, out),
         None => {
             out.extend_from_slice(name)?;
             out.extend_from_slice(b": ")
@@ -144,7 +145,7 @@ fn write_tail(file: &[u8], at: Option<u32>, out: &mut Vec<u8>) -> Result<(), All
     ensures { OnOk result (out.new.items ≡ out.old.items ++ tail_text file.now at) }
 {
     match at {
-        Some(at) => write_source(file, at, out),
+        Some(at) => write_source(TextLines::File, file, at, out),
         None => Ok(()),
     }
 }

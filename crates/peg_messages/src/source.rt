@@ -4,8 +4,8 @@ ghost use Rattle.peg_bytes.specs.Place.{max_offset};
 ghost use Rattle.peg_messages.specs.Source.{source_lines, unsplit};
 ghost use Rattle.peg_messages.specs.Source.{back, caret_line, continues, is_in_line, line_from, shown_line};
 
+use crate::lines::TextLines;
 use crate::shown::{Style, write_shown};
-use peg_bytes::place;
 use std::alloc::AllocError;
 
 /// Returns the part of some bytes between two offsets, as far as there are bytes.
@@ -17,35 +17,43 @@ pub(crate) fn part_of(bytes: &[u8], start: usize, end: usize) -> &[u8]
 }
 
 // Returns the line that begins at an offset, without its line end.
-fn line_from(text: &[u8], start: usize) -> &[u8]
+fn line_from(lines: TextLines, text: &[u8], start: usize) -> &[u8]
     requires { start ≤ length text.now }
-    ensures { result.now ≡ line_from text.now start }
+    ensures { result.now ≡ line_from lines text.now start }
 {
     let rest = &text[start..];
     'line: for length in 0..rest.len() {
-        if !is_in_line(rest[length]) {
+        if !is_in_line(lines, rest[length]) {
             return &rest[..length];
         }
     }
     rest
 }
 
-// Returns whether a byte is neither LF nor CR.
-fn is_in_line(byte: u8) -> bool
-    ensures { result ≡ is_in_line byte }
+// Returns whether a byte ends no line.
+fn is_in_line(lines: TextLines, byte: u8) -> bool
+    ensures { result ≡ is_in_line lines byte }
 {
-    byte != b'\n' && byte != b'\r'
+    match lines {
+        TextLines::File => byte != b'\n' && byte != b'\r',
+        TextLines::Part { .. } => byte != b'\n',
+    }
 }
 
 /// Writes the line of a position of a text, and a caret below the position. Takes time linear in the text up to the end
 /// of that line.
-pub(crate) fn write_source(text: &[u8], at: u32, out: &mut Vec<u8>) -> Result<(), AllocError>
+pub(crate) fn write_source(
+    lines: TextLines,
+    text: &[u8],
+    at: u32,
+    out: &mut Vec<u8>,
+) -> Result<(), AllocError>
     requires in_text { at ≤ length text.now }
     requires small { at ≤ max_offset }
-    ensures { OnOk result (out.new.items ≡ out.old.items ++ source_lines text.now at) }
+    ensures { OnOk result (out.new.items ≡ out.old.items ++ source_lines lines text.now at) }
 {
-    let column = place(text, at).column - 1;
-    write_lines(line_from(text, (at - column) as usize), column, out)
+    let column = lines.column(text, at) - 1;
+    write_lines(line_from(lines, text, (at - column) as usize), column, out)
 }
 
 // Writes a line and a caret below it, where the position is at offset `at` of the line.

@@ -23,4 +23,4 @@ returns-in_ok-called-in-Bytes g c file rules of from is =
           c.in-Bytes.text.items report) called
           (subst (λ (text : List ℕ). IsReport file rules style (start_named options) options.memo options.steps
           c.as_bytes-in-Bytes.result.now text report) c.deref.ensures.value right),
-    )) (c.report_of_text.ensures file rules of from is)
+    )) (c.report_of_text.ensures.report file rules of from is)

@@ -6,7 +6,7 @@ use Rattle.peg_messages.specs.Failures.{failure_message}
 use Rattle.peg_messages.specs.declared.failure.Failure.{Failure}
 use Rattle.peg_semantics.specs.Rules.{Rule}
 use Rattle.peg_explain.specs.Explanations.{in_file_order, message_item_of, note_text}
-use Rattle.peg_explain.proofs.explainer.Explainer.message.Goals as goal
+use Rattle.peg_explain.proofs.explainer.Explainer.message_in.Goals as goal
 
 pub write-requires-clause-few : goal.write-requires-clause-few
 write-requires-clause-few c =
@@ -25,6 +25,7 @@ returns c file rules of_explainer =
     let failure : Failure = record {
       name = c.args.name;
       text = c.args.text;
+      lines = c.args.lines;
       grammar = c.args.self.now.file;
       at = c.args.mismatch.now.at;
       expected = c.deref-3.result;
@@ -34,6 +35,7 @@ returns c file rules of_explainer =
       record {
         named = refl;
         has_text = refl;
+        has_lines = refl;
         has_grammar = of_explainer.has_file;
         at = refl;
         items = ap (map message_item_of) c.deref-3.ensures.value ∙ c.in_ok-items.ensures.items
