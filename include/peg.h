@@ -170,6 +170,26 @@ typedef struct peg_summary {
     uint64_t steps;    /* the number of steps of the run that gave the answer; see "Steps" */
 } peg_summary;
 
+/* A record of a text, such as a line of a log: the bytes from offset `start` up to, but not including, offset `end`.
+ * The caller sets these two members, and `peg_parser_records` sets the others. All have 32 bits, so an array of records is a
+ * table of numbers with seven columns. */
+typedef struct peg_record {
+    uint32_t start;
+    uint32_t end;
+    uint32_t status;   /* PEG_OK or PEG_FAILED, or why there is no answer */
+    uint32_t consumed; /* the length of the prefix of the record that matched, or 0 */
+    uint32_t furthest; /* the greatest offset in the record at which a terminal failed, or 0 if none failed */
+    uint32_t first;    /* the number of the record's first node in the array of nodes */
+    uint32_t nodes;    /* the number of the record's nodes; 0 if no prefix matched */
+} peg_record;
+
+/* How many records a call parsed. */
+typedef struct peg_progress {
+    uint64_t records; /* the number of records that were parsed, the first ones of the array */
+    uint64_t nodes;   /* the number of their nodes */
+    uint64_t wanted;  /* the number of nodes of the next record, if there is no room for them, else 0 */
+} peg_progress;
+
 /* Where a text doesn't match as a whole. An item is a terminal or a predicate outside predicates. */
 typedef struct peg_mismatch {
     uint32_t position;     /* the offset in the text, at most its length */
@@ -288,6 +308,24 @@ void peg_parser_free(peg_parser *parser);
  * are those of `peg_parse`, but for the number of nodes. Rule numbers are the grammar's. `parser` is unchanged. */
 uint32_t peg_parser_parse(peg_parser *parser, const uint8_t *text, size_t text_length, const uint8_t *start,
                           size_t start_length, uint32_t memo, uint64_t steps, peg_match *out);
+
+/* Parses many records of one text. Each of the `record_count` records is parsed as `peg_parser_parse` parses a text of
+ * its bytes alone, and gets the status, the lengths and the nodes of that call. The nodes of all records are written
+ * to `nodes`, one record after the other: those of record i are `nodes[records[i].first]` and the ones after it.
+ * Offsets of nodes are offsets in their record. `start`, `memo` and `steps` are those of `peg_parse`, for each record.
+ * `parser` is unchanged.
+ * The status of a record is PEG_OK or PEG_FAILED, or else it has no answer and no nodes. PEG_OUT_OF_RANGE: `start` is
+ * greater than `end`, or `end` than `text_length`. PEG_TEXT_TOO_LONG: the record is too long. PEG_STEP_LIMIT: the
+ * parse takes more steps than `steps`. The records after it are parsed all the same.
+ * The call stops before the first record whose nodes don't fit into `nodes`, which has room for `node_capacity` of
+ * them, and at most for 4,294,967,295. `out->wanted` is then their number. It stops, too, if a request for memory fails
+ * after the first record. Records and nodes that it didn't reach are unchanged. Call it again for the records that are
+ * left.
+ * Returns PEG_OK. Otherwise records, nodes and `out` are unchanged. PEG_WRONG_HANDLE: `parser` holds no parser.
+ * PEG_NO_SUCH_START: no rule has the name. PEG_OUT_OF_MEMORY: a request for memory failed, and no record was parsed. */
+uint32_t peg_parser_records(peg_parser *parser, const uint8_t *text, size_t text_length, const uint8_t *start,
+                            size_t start_length, uint32_t memo, uint64_t steps, peg_record *records,
+                            size_t record_count, peg_node *nodes, size_t node_capacity, peg_progress *out);
 
 /* Makes `out` another handle of the answer that `match` holds, as `peg_grammar_share` does for a grammar. */
 uint32_t peg_match_share(peg_match *match, peg_match *out);

@@ -50,6 +50,7 @@ compile lint examples/c/lint.c $archive
 compile lines tests/c/lines.c $archive
 compile misuse tests/c/misuse.c $archive
 compile freed tests/c/freed.c $archive
+compile records tests/c/records.c $archive
 compile memory tests/c/memory.c $archive $wrap
 compile threads tests/c/threads.c $archive -pthread
 compile shared tests/c/shared.c $archive -pthread
@@ -140,6 +141,7 @@ cmp "$work/want" "$work/got" || fault "lint: another message for JSON"
 cmp "$work/want" "$work/got" || fault "lint: another message for a refused file"
 
 "$work/misuse" || fault "misuse"
+"$work/records" || fault "records"
 printf '{"a": [1, "b"]}' > "$work/object"
 "$work/freed" examples/json.peg "$work/object" || fault "freed"
 json=$(find examples/json -type f | sort | head -n 1)
@@ -167,6 +169,7 @@ if command -v valgrind > /dev/null; then
   under lines code examples/json.peg
   under lines lint examples/lint/mistakes.peg
   under misuse
+  under records
   under freed examples/json.peg "$work/object"
   under memory examples/json.peg "$json"
   under shared examples/json.peg "$work/object"
@@ -177,7 +180,7 @@ if command -v valgrind > /dev/null; then
   races helgrind threads examples/json.peg "$json"
   races helgrind shared examples/json.peg "$work/object"
   races drd shared examples/json.peg "$work/object"
-  echo "valgrind: 8 programs"
+  echo "valgrind: 9 programs"
 else
   echo "SKIPPED: the C programs under valgrind, there is none"
 fi

@@ -1,6 +1,6 @@
 /* memory GRAMMAR TEXT: refuses each request for memory of a reading, a parse, an explanation, the same by an explainer,
- * of reading a parser of no rules and a parse by it, of lines about the grammar, and of sharing a handle in turn, alone
- * and with all later ones. Each call has to return PEG_OUT_OF_MEMORY, leave the
+ * of reading a parser of no rules, a parse by it and a parse of two records, of lines about the grammar, and of sharing
+ * a handle in turn, alone and with all later ones. Each call has to return PEG_OUT_OF_MEMORY, leave the
  * handles as they were and release what it requested, or to have the answer. It makes at most ten times the requests
  * and the steps that it takes without a refusal. The text to be explained is all but the last byte of TEXT. Link it
  * with the linker's options --wrap=malloc, --wrap=realloc and --wrap=free. */
@@ -233,6 +233,31 @@ static long refuse_in_parsing_by(peg_parser *parser, const uint8_t *text, size_t
     }
 }
 
+/* Parses the text and its first byte as two records. A request that is refused after the first record gives PEG_OK, and
+ * the second record is as it was. */
+static long refuse_in_records(peg_parser *parser, const uint8_t *text, size_t length) {
+    for (long n = -1;; n++) {
+        peg_record records[2] = {{0, (uint32_t)length, 99, 0, 0, 0, 0}, {0, 1, 99, 0, 0, 0, 0}};
+        peg_node nodes[2] = {{9, 9, 9, 9, 9}, {9, 9, 9, 9, 9}};
+        peg_progress progress = {9, 9, 9};
+        long before = blocks;
+        void *held = parser->opaque;
+        refuse_request(n);
+        uint32_t status = peg_parser_records(parser, text, length, (const uint8_t *)"", 0, PEG_DEFAULT_MEMO, 0, records,
+                                             2, nodes, 2, &progress);
+        int is_part = status == PEG_OK && progress.records == 1 && progress.wanted == 0;
+        if (is_part && (!refused || records[0].status == 99 || records[1].status != 99)) {
+            fail("the call stops before a record, or changed it", n);
+        }
+        int is_unchanged = records[0].status == 99 && records[1].status == 99 && nodes[0].rule == 9 &&
+                           progress.records == 9 && parser->opaque == held;
+        int has_answer = status == PEG_OK && (is_part || progress.records == 2);
+        if (!was_refused(has_answer, status, is_unchanged, before, n)) {
+            return n;
+        }
+    }
+}
+
 static void refuse_in_parsers(const uint8_t *file, size_t file_length, const uint8_t *text, size_t text_length) {
     long reading = refuse_in_reading_a_parser(file, file_length);
     peg_parser parser = PEG_NULL;
@@ -241,9 +266,10 @@ static void refuse_in_parsers(const uint8_t *file, size_t file_length, const uin
         fail("the parser is refused", 0);
     }
     long parse = refuse_in_parsing_by(&parser, text, text_length, PEG_DEFAULT_MEMO);
+    long records = refuse_in_records(&parser, text, text_length);
     peg_parser_free(&parser);
-    printf("memory: refused %ld requests of reading a parser, %ld of a parse by it%s\n", reading, parse,
-           is_lasting ? ", each with all later ones" : "");
+    printf("memory: refused %ld requests of reading a parser, %ld of a parse by it, %ld of two records%s\n", reading,
+           parse, records, is_lasting ? ", each with all later ones" : "");
 }
 
 static uint32_t lint(peg_grammar *grammar, peg_line *out) {

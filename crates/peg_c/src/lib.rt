@@ -10,6 +10,7 @@ mod lines;
 mod matches;
 mod parsers;
 mod raw_box;
+mod records;
 mod sharing;
 mod store;
 mod texts;

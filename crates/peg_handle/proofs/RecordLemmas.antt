@@ -1,5 +1,5 @@
 -- The results of records, one after the other.
-use Rattle.std.proofs.Common.{◌≡◌, ◌∙◌, ℕ, ◌+◌, ◌-◌, ◌<◌, ◌≤◌, List, [], ◌∷◌, ◌++◌, IfOk, Result, Ok, Err, Some, ap, arith}
+use Rattle.std.proofs.Common.{◌≡◌, ◌∙◌, ℕ, ◌+◌, ◌-◌, ◌<◌, ◌≤◌, List, [], ◌∷◌, ◌++◌, IfOk, OnOk, Result, Ok, Err, Some, ap, arith}
 use Rattle.std.proofs.Common.{drop, get_or, length, refl, set, subst, sym, take}
 use Rattle.std.proofs.lemmas.List.{drop-drop, drop-set-lt, get_or-drop, length-take-le, take_more, take_more_set}
 use Rattle.std.proofs.lemmas.Option.{slice_get-get_or}
@@ -89,6 +89,16 @@ is_wanted : (asked : RecordParse) (given : TextRecord) (capacity used : ℕ) (wh
 is_wanted asked given capacity used Memory is some = absurd (omega arith)
 is_wanted asked given capacity used (Room wanted) is some = is
 
+-- nodes are wanted, unless an allocation failed
+wants_nodes : (asked : RecordParse) (given : TextRecord) (capacity used : ℕ) (why : Unanswered)
+    → IsUnanswered asked given capacity used why → used ≤ node_room capacity → (why ≡ Memory → ⊥)
+    → 0 < wanted_nodes why
+wants_nodes asked given capacity used Memory is within other = absurd (other refl)
+wants_nodes asked given capacity used (Room wanted) is within other =
+    let over : node_room capacity < used + length (result_nodes is.result) =
+    subst (λ (n : ℕ). node_room capacity < used + n) (sym is.count) is.room in
+    omega (arith, over, within, is.count)
+
 -- the progress of a call that stops before a record
 pub stops_before : (asked : RecordParse) (old new : List TextRecord) (nodes_old nodes_new : List Node) (i used : ℕ)
     (d : TextRecord) (why : Unanswered) (returned : Result RecordProgress ParseFault) → i < length old
@@ -97,11 +107,12 @@ pub stops_before : (asked : RecordParse) (old new : List TextRecord) (nodes_old 
     → AreRecordAnswers asked (take i old) (take i new) (take used nodes_new)
     → IsUnanswered asked (get_or new i d) (length nodes_new) used why
     → IfOk returned (λ progress. progress ≡ record { records = i; nodes = used; wanted = wanted_nodes why })
+    → OnOk returned (why ≡ Memory → 0 < i)
     → IfOk returned (AnswersRecords asked old new nodes_old nodes_new)
 stops_before asked old new nodes_old nodes_new i used d why (Err fault) in_old room within others other_nodes so_far
-    unanswered is = tt
+    unanswered is later = tt
 stops_before asked old new nodes_old nodes_new i used d why (Ok progress) in_old room within others other_nodes so_far
-    unanswered is =
+    unanswered is later =
     subst (AnswersRecords asked old new nodes_old nodes_new) (sym is) (record {
       answers = so_far;
       records_within = omega arith;
@@ -114,6 +125,8 @@ stops_before asked old new nodes_old nodes_new i used d why (Ok progress) in_old
         subst (λ (n : ℕ). LacksRoom asked (get_or new i d) n used (wanted_nodes why)) room
             (is_wanted asked (get_or new i d) (length nodes_new) used why unanswered some),
       );
+      begins = λ some none. wants_nodes asked (get_or new i d) (length nodes_new) used why unanswered within
+          (λ memory. let more : 0 < i = later memory in absurd (omega (arith, more, none)));
     })
 
 -- what comes after one more item that is written is as it was

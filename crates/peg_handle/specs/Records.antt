@@ -110,7 +110,7 @@ pub record LacksRoom (asked : RecordParse) (next : TextRecord) (capacity used wa
   pub room : node_room capacity < used + wanted
 
 -- The first records have their answers, and all others are unchanged. If nodes are wanted, they are those of the record
--- after these, for which there is no room.
+-- after these, for which there is no room. If there are records, one has its answer, or nodes are wanted.
 pub record AnswersRecords (asked : RecordParse) (old new : List TextRecord) (nodes_old nodes_new : List Node)
     (progress : RecordProgress) : Type 0 where
   pub answers : AreRecordAnswers asked (take progress.records old) (take progress.records new)
@@ -121,3 +121,4 @@ pub record AnswersRecords (asked : RecordParse) (old new : List TextRecord) (nod
   pub other_nodes : drop progress.nodes nodes_new ≡ drop progress.nodes nodes_old
   pub lacks : 0 < progress.wanted → (next : TextRecord) × (slice_get old progress.records ≡ Some next)
       × LacksRoom asked next (length nodes_old) progress.nodes progress.wanted
+  pub begins : 0 < length old → progress.records ≡ 0 → 0 < progress.wanted

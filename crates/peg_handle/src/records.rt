@@ -1,5 +1,5 @@
 //! Parses of many records of one text.
-ghost use Rattle.std.specs.Prelude.{◌≡◌, ◌≢◌, ◌↔◌, IfErr, IfOk, IsErrOf, None, OnErr};
+ghost use Rattle.std.specs.Prelude.{◌≡◌, ◌≢◌, ◌<◌, ◌↔◌, IfErr, IfOk, IsErrOf, None, OnErr, OnOk};
 ghost use Rattle.peg_handle.specs.RecordTasks.{task_parse, task_rules, wanted_nodes};
 ghost use Rattle.peg_handle.specs.Records.{AnswersRecords};
 ghost use Rattle.peg_handle.specs.Starts.{start_of_bytes};
@@ -99,6 +99,7 @@ fn progress_before(
 ) -> Result<RecordProgress, ParseFault>
     ensures progress { IfOk result (λ progress.
         progress ≡ record { records = records; nodes = nodes; wanted = wanted_nodes unanswered }) }
+    ensures later { OnOk result (unanswered ≡ Unanswered.Memory → 0 < records) }
     ensures memory { IfErr result (λ fault. fault ≡ ParseFault.Memory) }
     ensures none { OnErr result (records ≡ 0) }
 {

@@ -45,4 +45,4 @@ returns-in-Err-clause-answers c =
     (stops_before (task_parse c.args.task.now) c.args.records.now c.records.records c.args.nodes.now c.records.nodes
     c.records.i c.records.used _ c.in-Err.unanswered c.progress_before.result (omega arith) c.records.invariant.room
     c.records.invariant.used c.records.invariant.others c.records.invariant.other_nodes c.records.invariant.answers
-    c.in-Err.ensures.unanswered c.progress_before.ensures.progress)
+    c.in-Err.ensures.unanswered c.progress_before.ensures.progress c.progress_before.ensures.later)
