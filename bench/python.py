@@ -2,8 +2,8 @@
 """Parses JSON with the Python package and with other parsers for Python. Parsimonious and Arpeggio get the grammar
 examples/json.peg, written in their notations; Lark gets a grammar of its own for the same texts. Prints the CPU seconds
 for each megabyte until all nodes are at hand, and the seconds of walks over all nodes. What isn't installed is left out.
-The others parse a shorter text, since they are slow. Then parses the lines of a log by examples/log.peg, as records of a
-file object: as columns of numbers, and as an object for each line. Prints the CPU microseconds of a line."""
+The others parse a shorter text, since they are slow. Then parses the lines of a log by examples/log.peg, as records of
+a file object: as columns of numbers, and as an object for each line. Prints the CPU microseconds of a line."""
 
 import io
 import json
