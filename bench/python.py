@@ -2,8 +2,10 @@
 """Parses JSON with the Python package and with other parsers for Python. Parsimonious and Arpeggio get the grammar
 examples/json.peg, written in their notations; Lark gets a grammar of its own for the same texts. Prints the CPU seconds
 for each megabyte until all nodes are at hand, and the seconds of walks over all nodes. What isn't installed is left out.
-The others parse a shorter text, since they are slow."""
+The others parse a shorter text, since they are slow. Then parses the lines of a log by examples/log.peg, as records of
+a file object: as columns of numbers, and as an object for each line. Prints the CPU microseconds of a line."""
 
+import io
 import json
 import os
 import re
@@ -15,11 +17,13 @@ sys.path[:0] = [os.path.join(TOP, "python"), os.path.join(TOP, "bench")]
 
 import pegtool  # noqa: E402
 from pegtool import _notation as notation  # noqa: E402
-from texts import json_text  # noqa: E402
+from texts import json_text, log_text  # noqa: E402
 
 RUNS = 3
 BYTES = 1_000_000
 FEWER_BYTES = 20_000
+LOG_BYTES = 10_000_000
+FIELDS = ["Host", "Request", "Status"]
 
 LARK = r"""
     value: object | array | string | number | "true" | "false" | "null"
@@ -32,6 +36,11 @@ LARK = r"""
     %import common.SIGNED_NUMBER
     %import common.WS
     %ignore WS
+"""
+
+
+RECORD = r"""
+    Record <- Host ' ' Identity ' ' User ' [' Time '] ' Request ' ' Status ' ' Size (' ' Referrer ' ' Agent)? End
 """
 
 
@@ -105,6 +114,38 @@ def touch(match):
         node.rule, node.start, node.end
 
 
+def log_grammar():
+    """The grammar of a line of a log. In examples/log.peg a line has its end, and a record has none."""
+    with open(os.path.join(TOP, "examples", "log.peg"), encoding="utf-8") as file:
+        return pegtool.Grammar(file.read() + RECORD)
+
+
+def spans_of_arrays(grammar, data):
+    """The number of nodes of the lines of a log, whose records, rules and spans are read as columns."""
+    count = 0
+    for block in grammar.line_arrays(io.BytesIO(data), "Record", show=FIELDS):
+        columns = block.records, block.rules, block.starts, block.ends
+        count += max(map(len, columns))
+    return count
+
+
+def spans_of_lines(grammar, data):
+    """The same by an object for each line."""
+    return sum(len(answer.rows) for answer in grammar.lines(io.BytesIO(data), "Record", show=FIELDS) if answer)
+
+
+def print_records():
+    """The table of the records of a log in the common format: the lines have neither a referrer nor an agent."""
+    data, grammar = re.sub(rb' "-" "[^"\n]*"\n', b"\n", log_text(LOG_BYTES)), log_grammar()
+    lines = data.count(b"\n")
+    print(f"\n| {lines:,} lines of {len(data) / lines:.0f} bytes, with the spans of three rules | µs a line |")
+    print("|---|---|")
+    for name, call in (("`Grammar.line_arrays`", spans_of_arrays), ("`Grammar.lines`", spans_of_lines)):
+        seconds, nodes = best(lambda: call(grammar, data))
+        assert nodes == lines * (1 + len(FIELDS)), nodes
+        print(f"| {name} | {seconds / lines * 10**6:.2f} |")
+
+
 def main():
     data = json_text(BYTES)
     grammar = pegtool.Grammar.from_file(os.path.join(TOP, "examples", "json.peg"))
@@ -127,6 +168,7 @@ def main():
     }
     for name, call in walks.items():
         print(f"| {name} | {best(call)[0]:.2f} |")
+    print_records()
 
 
 if __name__ == "__main__":

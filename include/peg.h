@@ -171,8 +171,8 @@ typedef struct peg_summary {
 } peg_summary;
 
 /* A record of a text, such as a line of a log: the bytes from offset `start` up to, but not including, offset `end`.
- * The caller sets these two members, and `peg_parser_records` sets the others. All have 32 bits, so an array of records is a
- * table of numbers with seven columns. */
+ * The caller sets these two members, and `peg_parser_records` sets the others. All have 32 bits, so an array of
+ * records is a table of numbers with seven columns. */
 typedef struct peg_record {
     uint32_t start;
     uint32_t end;

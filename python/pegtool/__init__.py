@@ -16,6 +16,7 @@ failure are those of Ford's relation ("Parsing Expression Grammars", POPL 2004) 
 proved of the library that this package calls. This package itself is tested.
 """
 
+from ._arrays import RecordArrays
 from ._errors import (
     GrammarError,
     NodeError,
@@ -46,6 +47,7 @@ __all__ = [
     "NoSuchRuleError",
     "ParseError",
     "PegError",
+    "RecordArrays",
     "Refusal",
     "Row",
     "Rows",

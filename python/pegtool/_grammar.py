@@ -8,6 +8,7 @@ import os
 import threading
 from typing import Any, Dict, FrozenSet, Iterable, Iterator, List, Optional, Tuple, Union, overload
 
+from ._arrays import Columns, RecordArrays, arrays_of
 from ._errors import GrammarError, NoSuchRuleError, StepLimitError, TextTooLongError
 from ._library import (
     FAILED,
@@ -22,12 +23,13 @@ from ._library import (
     ParserHandle,
     ParsingHandle,
     RawExplanation,
+    RecordTable,
     Shared,
 )
 from ._match import Failure, Match, Request
 from ._packed import shifted
-from ._records import RecordAnswer, Stream, answers_of, texts_of
-from ._text import Buffer, Text, text_of
+from ._records import RecordAnswer, Stream, answer_to, answers_of, texts_of
+from ._text import Buffer, RecordText, Text, text_of
 
 # The capacity of the memo that pegtool uses if none is given.
 DEFAULT_MEMO = 4096
@@ -252,15 +254,68 @@ class Grammar:
         stream, by default its own name. A record that is over a limit gives a `Refusal`, which is false like a
         `Failure`. The other options and errors are those of `match`; the errors of options are raised at once.
         """
+        options, hidden, called = self._record_options(stream, start, memo, steps, show, hide, name)
+        texts = texts_of(stream, end_of_records(null, crlf), crlf)
+        return answers_of(texts, lambda text: self._answer(Request(text, 0, options, hidden, tree, called)))
+
+    def line_arrays(
+        self,
+        stream: Stream,
+        start: Optional[str] = None,
+        *,
+        null: bool = False,
+        crlf: bool = False,
+        memo: int = DEFAULT_MEMO,
+        steps: Optional[int] = None,
+        show: Optional[Iterable[str]] = None,
+        hide: Optional[Iterable[str]] = None,
+        tree: bool = True,
+        name: Optional[str] = None,
+    ) -> Iterator[RecordArrays]:
+        """Parses the records of a stream as `lines` does, and gives them as columns of numbers, many records at once.
+
+        >>> import io
+        >>> numbers = Grammar("Number <- [0-9]+")
+        >>> for block in numbers.line_arrays(io.BytesIO(b"12\\nx\\n3\\n")):
+        ...     print(list(block.statuses), list(block.starts), list(block.ends))
+        [0, 1, 0] [0, 5] [2, 6]
+
+        No object is made for a record or a node. `numpy.asarray` takes the columns without copies. The options and the
+        errors are those of `lines`.
+        """
+        options, hidden, called = self._record_options(stream, start, memo, steps, show, hide, name)
+        omitted = hidden if tree else frozenset(self.rules)
+
+        def parse(data: bytes, records: RecordTable, room: int) -> Columns:
+            status, parsed, nodes, wanted = self._selecting(omitted).parse_records(data, records, options, room)
+            if status != OK:
+                raise fault(status, options)
+            if not tree:
+                parsed, nodes = parsed.without_nodes(), nodes.part(0, 0)
+            return Columns(data, parsed, nodes, wanted)
+
+        def answer(text: RecordText) -> RecordAnswer:
+            return answer_to(text, lambda one: self._answer(Request(one, 0, options, hidden, tree, called)))
+
+        return arrays_of(stream, end_of_records(null, crlf), crlf, parse, answer)
+
+    def _record_options(
+        self,
+        stream: Stream,
+        start: Optional[str],
+        memo: int,
+        steps: Optional[int],
+        show: Optional[Iterable[str]],
+        hide: Optional[Iterable[str]],
+        name: Optional[str],
+    ) -> Tuple[Options, FrozenSet[str], str]:
+        """The options of the parses of a stream's records, the rules that are hidden, and how errors call the stream.
+        Raises the errors of options."""
         options = options_of(start, memo, steps)
         if start is not None:
             self.known_rules([start], "start")
         hidden = self._hidden(show, hide)
-        if null and crlf:
-            raise ValueError("null and crlf can't be given together")
-        called = name_of(stream) if name is None else name
-        texts = texts_of(stream, b"\0" if null else b"\n", crlf)
-        return answers_of(texts, lambda text: self._answer(Request(text, 0, options, hidden, tree, called)))
+        return options, hidden, name_of(stream) if name is None else name
 
     def _answer(self, request: Request) -> Union[Match[Any], Failure[Any]]:
         """The answer to a parse. Raises the error of a parse that has none."""
@@ -351,7 +406,10 @@ class Grammar:
         """The handle of the parser without the nodes of hidden rules, or without any, that this thread uses."""
         if tree and not hidden:
             return self._handle()
-        omitted = hidden if tree else frozenset(self.rules)
+        return self._selecting(hidden if tree else frozenset(self.rules))
+
+    def _selecting(self, omitted: FrozenSet[str]) -> ParserHandle:
+        """The handle of the parser without the nodes of some rules that this thread uses."""
         with self._lock:
             shared = self._parsers.pop(omitted, None)
             if shared is None:
@@ -385,6 +443,13 @@ class Grammar:
 def grammar_of(source: Union[str, bytes], name: str, hide: FrozenSet[str]) -> Grammar:
     """A grammar that was pickled."""
     return Grammar(source, name=name, hide=hide)
+
+
+def end_of_records(null: bool, crlf: bool) -> bytes:
+    """The byte that ends a record. Raises `ValueError` if both options are given."""
+    if null and crlf:
+        raise ValueError("null and crlf can't be given together")
+    return b"\0" if null else b"\n"
 
 
 def name_of(stream: Stream) -> str:

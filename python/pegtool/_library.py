@@ -2,12 +2,30 @@
 
 from __future__ import annotations
 
+import array
 import ctypes
 import os
 import threading
 from ctypes import POINTER, byref, c_char_p, c_size_t, c_uint8, c_uint32, c_uint64, c_void_p
 from ctypes.util import find_library
-from typing import Any, Callable, ClassVar, Dict, Generic, Iterator, List, NamedTuple, Optional, Tuple, TypeVar
+from typing import (
+    TYPE_CHECKING,
+    Any,
+    Callable,
+    ClassVar,
+    Dict,
+    Generic,
+    Iterator,
+    List,
+    NamedTuple,
+    Optional,
+    Tuple,
+    TypeVar,
+)
+
+if TYPE_CHECKING:
+    # Arrays have a type parameter from Python 3.12 on.
+    Numbers = array.array[int]
 
 # The number of the binary interface that this module is written for.
 ABI = 1
@@ -58,6 +76,12 @@ class PegMismatch(ctypes.Structure):
     _fields_ = [("position", c_uint32), ("end_expected", c_uint32), ("expected", c_uint64)]
 
 
+class PegProgress(ctypes.Structure):
+    """How many records a call parsed."""
+
+    _fields_ = [("records", c_uint64), ("nodes", c_uint64), ("wanted", c_uint64)]
+
+
 # The result and the arguments of each function. A text is a `c_void_p`, which takes an address inside of `bytes`.
 DECLARATIONS: Dict[str, Tuple[Any, ...]] = {
     "peg_grammar_read": (c_uint32, c_char_p, c_size_t, POINTER(Handle)),
@@ -96,6 +120,21 @@ DECLARATIONS: Dict[str, Tuple[Any, ...]] = {
         c_uint32,
         c_uint64,
         POINTER(Handle),
+    ),
+    "peg_parser_records": (
+        c_uint32,
+        POINTER(Handle),
+        c_void_p,
+        c_size_t,
+        c_char_p,
+        c_size_t,
+        c_uint32,
+        c_uint64,
+        c_void_p,
+        c_size_t,
+        c_void_p,
+        c_size_t,
+        POINTER(PegProgress),
     ),
     "peg_match_free": (None, POINTER(Handle)),
     "peg_match_summary": (c_uint32, POINTER(Handle), POINTER(PegSummary)),
@@ -183,6 +222,74 @@ def address(data: bytes, offset: int) -> int:
     return (ctypes.cast(c_char_p(data), c_void_p).value or 0) + offset
 
 
+class Table:
+    """Packed rows of words of 32 bits, each of which has the same number of words."""
+
+    __slots__ = ("words",)
+
+    # The number of words in a row.
+    WIDTH: ClassVar[int]
+
+    def __init__(self, words: memoryview) -> None:
+        self.words = words
+
+    def __len__(self) -> int:
+        """The number of rows."""
+        return len(self.words) // self.WIDTH
+
+    def column(self, number: int) -> memoryview:
+        """The words with this number in all rows."""
+        return self.words[number :: self.WIDTH]
+
+    def part(self: AnyTable, first: int, last: int) -> AnyTable:
+        """The rows from one number up to another, without copies."""
+        return type(self)(self.words[first * self.WIDTH : last * self.WIDTH])
+
+    def address(self) -> int:
+        """The address of the first row, if there is one. The table must be kept while it is used."""
+        return ctypes.addressof(c_uint32.from_buffer(self.words))
+
+
+AnyTable = TypeVar("AnyTable", bound=Table)
+
+
+class RecordTable(Table):
+    """Records of a text: where they are, and what their parses gave."""
+
+    __slots__ = ()
+
+    WIDTH = 7
+    START, END, STATUS, CONSUMED, FURTHEST, FIRST, NODES = range(WIDTH)
+
+    @classmethod
+    def of_spans(cls, starts: Numbers, ends: Numbers) -> RecordTable:
+        """The records with these spans."""
+        table = cls(zeros(cls.WIDTH * len(starts)))
+        table.column(cls.START)[:] = memoryview(starts)
+        table.column(cls.END)[:] = memoryview(ends)
+        return table
+
+    def without_nodes(self) -> RecordTable:
+        """The same records, as if they had no nodes."""
+        for number in (self.FIRST, self.NODES):
+            self.column(number)[:] = zeros(len(self))
+        return self
+
+
+class NodeTable(Table):
+    """Packed nodes. The upper word of a size is always 0 here: such a tree doesn't fit into the memory."""
+
+    __slots__ = ()
+
+    WIDTH = 6
+    RULE, START, END, LEVEL, SIZE = range(5)
+
+
+def zeros(count: int) -> memoryview:
+    """This many words that are 0."""
+    return memoryview(array.array("I", bytes(4 * count)))
+
+
 class ReadHandle:
     """A handle of what was read from a grammar file. One call at a time uses it. Any thread may drop the last
     reference."""
@@ -252,6 +359,27 @@ class ParserHandle(ParsingHandle):
 
     def _words(self) -> Tuple[Any, ...]:
         return self._shown, len(self._shown)
+
+    def parse_records(
+        self, text: bytes, records: RecordTable, options: Options, room: int
+    ) -> Tuple[int, RecordTable, NodeTable, int]:
+        """Parses records of a text, with room for some nodes. Returns the status, the records that were parsed, their
+        nodes, and how many nodes the record after them has, if there was no room for them."""
+        nodes = NodeTable(zeros(NodeTable.WIDTH * room))
+        progress = PegProgress()
+        status: int = LIBRARY.peg_parser_records(
+            byref(self.raw),
+            address(text, 0),
+            len(text),
+            *options.words(),
+            records.address(),
+            len(records),
+            nodes.address(),
+            room,
+            byref(progress),
+        )
+        parsed, used = records.part(0, progress.records), nodes.part(0, progress.nodes)
+        return status, parsed, used, progress.wanted
 
 
 class GrammarHandle(ParsingHandle):

@@ -40,5 +40,5 @@ class Lines:
 
 def line_ends(data: bytes, start: int, end: int) -> int:
     """The number of line ends in a part of some bytes; a CR counts unless a LF follows, in the part or after it."""
-    pairs = data.count(b"\r\n", start, end + 1)
-    return data.count(b"\n", start, end) + data.count(b"\r", start, end) - pairs
+    feeds, returns = data.count(b"\n", start, end), data.count(b"\r", start, end)
+    return feeds + returns - data.count(b"\r\n", start, end + 1) if returns else feeds

@@ -56,10 +56,17 @@ def answers_of(
 ) -> Iterator[RecordAnswer]:
     """What the parses of records give."""
     for text in texts:
-        try:
-            yield answer(text)
-        except (StepLimitError, TextTooLongError) as cause:
-            yield Refusal(text, cause)
+        yield answer_to(text, answer)
+
+
+def answer_to(
+    text: RecordText, answer: Callable[[RecordText], Union[Match[bytes], Failure[bytes]]]
+) -> RecordAnswer:
+    """What the parse of a record gives."""
+    try:
+        return answer(text)
+    except (StepLimitError, TextTooLongError) as cause:
+        return Refusal(text, cause)
 
 
 def texts_of(stream: Stream, end: bytes, is_crlf: bool) -> Iterator[RecordText]:

@@ -5,6 +5,7 @@ import os
 import unittest
 
 import pegtool
+import pegtool._arrays
 import pegtool._grammar
 import pegtool._match
 import pegtool._text
@@ -20,7 +21,7 @@ def at_top(test):
 
 
 def load_tests(loader, tests, pattern):
-    for module in (pegtool, pegtool._grammar, pegtool._match, pegtool._text, pegtool._visitor):
+    for module in (pegtool, pegtool._arrays, pegtool._grammar, pegtool._match, pegtool._text, pegtool._visitor):
         tests.addTests(doctest.DocTestSuite(module, optionflags=doctest.IGNORE_EXCEPTION_DETAIL))
     tests.addTests(
         doctest.DocFileSuite(

@@ -129,6 +129,14 @@ static void parse_by_parser(void) {
     peg_parser_parse(&parser, TEXT, sizeof TEXT - 1, TEXT, 0, PEG_DEFAULT_MEMO, STEPS, &match);
 }
 
+static void parse_records(void) {
+    peg_record records[2] = {{.start = 0, .end = sizeof TEXT - 1}, {.start = 1, .end = 2}};
+    peg_node nodes[2] = {{0}};
+    peg_progress progress = {0};
+    peg_parser_records(&parser, TEXT, sizeof TEXT - 1, TEXT, 0, PEG_DEFAULT_MEMO, STEPS, records, 2, nodes, 2,
+                       &progress);
+}
+
 static void parse(void) { peg_parse(&grammar, TEXT, sizeof TEXT - 1, TEXT, 0, 0, STEPS, &match); }
 
 static void parse_by_name(void) {
@@ -237,6 +245,7 @@ static const struct {
     {"peg_line_text", line_text},
     {"peg_parser_read", read_parser},
     {"peg_parser_parse", parse_by_parser},
+    {"peg_parser_records", parse_records},
     {"peg_parse without a memo", parse},
     {"peg_parse with a memo", parse_by_name},
     {"peg_match_summary", summary},
