@@ -11,6 +11,7 @@ use Rattle.peg_io.proofs.NamedFileLemmas.{no-open_error}
 use Rattle.peg_records.specs.Records.{records}
 use Rattle.peg_records.specs.declared.end.RecordEnd.{RecordEnd}
 use Rattle.peg_record_files.specs.Faults.{IsFaultOfOpen, IsFaultOfText}
+use Rattle.peg_record_files.specs.Places.{first_place}
 use Rattle.peg_record_files.specs.RecordReplies.{WritesReplies}
 use Rattle.peg_record_files.specs.Runs.{AddsPart, AddsReplies, LeadsTo}
 use Rattle.peg_record_files.specs.Streams.{bytes_of_streams}
@@ -19,6 +20,7 @@ use Rattle.peg_record_files.specs.declared.fault.RecordsFault.TheVariants as fau
 use Rattle.peg_record_files.specs.declared.filter.RecordFilter.{RecordFilter}
 use Rattle.peg_record_files.specs.declared.lines.RecordLines.{RecordLines}
 use Rattle.peg_record_files.specs.declared.outcome.RecordOutcome.{RecordOutcome}
+use Rattle.peg_record_files.specs.declared.place.RecordPlace.{RecordPlace}
 use Rattle.peg_record_files.specs.declared.run.RecordRun.{RecordRun}
 use Rattle.peg_record_files.proofs.ReplyLemmas.{adds-none, adds-trans, part-after, part-before, part-none}
 use Rattle.peg_record_files.proofs.RunLemmas.{known}
@@ -30,7 +32,7 @@ cons-same : {X : Type 0} (x y : X) (xs ys : List X) → x ≡ y → xs ≡ ys �
 cons-same x y xs ys first rest = ap (λ z. z ∷ xs) first ∙ ap (λ l. y ∷ l) rest
 
 -- the first stream
-first-stream : (f : List ℕ → Option (List ℕ)) (x : List ℕ) (xs streams : List (List ℕ))
+pub first-stream : (f : List ℕ → Option (List ℕ)) (x : List ℕ) (xs streams : List (List ℕ))
     → map f (x ∷ xs) ≡ map Some streams
     → (s : List ℕ) × (rest : List (List ℕ)) × (streams ≡ s ∷ rest) × (f x ≡ Some s) × (map f xs ≡ map Some rest)
 first-stream f x xs [] is = let bad : f x ∷ map f xs ≡ [] = is in cc
@@ -41,7 +43,7 @@ first-stream f x xs (s ∷ rest) is =
     (s, rest, refl, one, others)
 
 -- the streams of the first names and of the others
-split-streams : (f : List ℕ → Option (List ℕ)) (xs ys streams : List (List ℕ))
+pub split-streams : (f : List ℕ → Option (List ℕ)) (xs ys streams : List (List ℕ))
     → map f (xs ++ ys) ≡ map Some streams
     → (a b : List (List ℕ)) × (streams ≡ a ++ b) × (map f xs ≡ map Some a) × (map f ys ≡ map Some b)
 split-streams f [] ys streams is = ([], streams, refl, refl, is)
@@ -65,30 +67,30 @@ records-more end streams stream =
 -- ---- what is added
 
 -- no stream is read
-pub texts-none : (IsReply : (number : ℕ) → (text line : List ℕ) → RecordOutcome → Type 0) (filter : RecordFilter)
+pub texts-none : (IsReply : RecordPlace → (text line : List ℕ) → RecordOutcome → Type 0) (filter : RecordFilter)
     (end : RecordEnd) (f : List ℕ → Option (List ℕ)) (lines : RecordLines) (bytes : Option (List ℕ))
     (streams : List (List ℕ)) → map f [] ≡ map Some streams
-    → AddsReplies IsReply filter (flat_map (records end) streams) lines lines bytes bytes
-texts-none IsReply filter end f lines bytes [] is = adds-none IsReply filter lines bytes
+    → AddsReplies IsReply filter end (flat_map (records end) streams) lines lines bytes bytes
+texts-none IsReply filter end f lines bytes [] is = adds-none IsReply filter end lines bytes
 texts-none IsReply filter end f lines bytes (s ∷ streams) is = let bad : [] ≡ Some s ∷ map Some streams = is in cc
 
 -- one more stream is read
-pub texts-added : (IsReply : (number : ℕ) → (text line : List ℕ) → RecordOutcome → Type 0) (filter : RecordFilter)
+pub texts-added : (IsReply : RecordPlace → (text line : List ℕ) → RecordOutcome → Type 0) (filter : RecordFilter)
     (end : RecordEnd) (f : List ℕ → Option (List ℕ)) (names : List (List ℕ)) (name : List ℕ) (a b c : RecordLines)
     (old mid new : Option (List ℕ))
     → ((streams : List (List ℕ)) → map f names ≡ map Some streams
-    → AddsReplies IsReply filter (flat_map (records end) streams) a b old mid)
-    → IfSome (f name) (λ stream. AddsReplies IsReply filter (records end stream) b c mid new)
+    → AddsReplies IsReply filter end (flat_map (records end) streams) a b old mid)
+    → IfSome (f name) (λ stream. AddsReplies IsReply filter end (records end stream) b c mid new)
     → (streams : List (List ℕ)) → map f (names ++ name ∷ []) ≡ map Some streams
-    → AddsReplies IsReply filter (flat_map (records end) streams) a c old new
+    → AddsReplies IsReply filter end (flat_map (records end) streams) a c old new
 texts-added IsReply filter end f names name a b c old mid new done more streams are =
     let split = split-streams f names (name ∷ []) streams are in
     let last = first-stream f name [] split.1 split.4 in
     let none = texts-empty f last.1 last.4 in
-    let next = known (f name) last.0 (λ stream. AddsReplies IsReply filter (records end stream) b c mid new) last.3 more in
-    let all = adds-trans IsReply filter (flat_map (records end) split.0) (records end last.0) a b c old mid new
+    let next = known (f name) last.0 (λ stream. AddsReplies IsReply filter end (records end stream) b c mid new) last.3 more in
+    let all = adds-trans IsReply filter end (flat_map (records end) split.0) (records end last.0) a b c old mid new
     (done split.0 split.3) next in
-    subst (λ (l : List (List ℕ)). AddsReplies IsReply filter l a c old new)
+    subst (λ (l : List (List ℕ)). AddsReplies IsReply filter end l a c old new)
     (sym (ap (flat_map (records end)) (split.2 ∙ ap (λ (l : List (List ℕ)). split.0 ++ l) (last.2
     ∙ ap (λ (l : List (List ℕ)). last.0 ∷ l) none)) ∙ records-more end split.0 last.0)) all
   where
@@ -97,23 +99,23 @@ texts-added IsReply filter end f names name a b c old mid new done more streams 
     texts-empty f (s ∷ streams) is = let bad : [] ≡ Some s ∷ map Some streams = is in cc
 
 -- a stream is read in part, and others aren't read
-pub texts-part : (IsReply : (number : ℕ) → (text line : List ℕ) → RecordOutcome → Type 0) (filter : RecordFilter)
+pub texts-part : (IsReply : RecordPlace → (text line : List ℕ) → RecordOutcome → Type 0) (filter : RecordFilter)
     (end : RecordEnd) (f : List ℕ → Option (List ℕ)) (names others : List (List ℕ)) (name : List ℕ) (a b : RecordLines)
     (old mid new : Option (List ℕ))
     → ((streams : List (List ℕ)) → map f names ≡ map Some streams
-    → AddsReplies IsReply filter (flat_map (records end) streams) a b old mid)
-    → IfSome (f name) (λ stream. AddsPart IsReply filter b.number (records end stream) mid new)
+    → AddsReplies IsReply filter end (flat_map (records end) streams) a b old mid)
+    → IfSome (f name) (λ stream. AddsPart IsReply filter end b.place (records end stream) mid new)
     → (streams : List (List ℕ)) → map f ((names ++ name ∷ []) ++ others) ≡ map Some streams
-    → AddsPart IsReply filter a.number (flat_map (records end) streams) old new
+    → AddsPart IsReply filter end a.place (flat_map (records end) streams) old new
 texts-part IsReply filter end f names others name a b old mid new done more streams are =
     let named = ap (map f) (sym (append_assoc names (name ∷ []) others)) ∙ are in
     let split = split-streams f names (name ∷ others) streams named in
     let next = first-stream f name others split.1 split.4 in
-    let part = known (f name) next.0 (λ stream. AddsPart IsReply filter b.number (records end stream) mid new) next.3 more in
-    let all = part-after IsReply filter (flat_map (records end) split.0)
+    let part = known (f name) next.0 (λ stream. AddsPart IsReply filter end b.place (records end stream) mid new) next.3 more in
+    let all = part-after IsReply filter end (flat_map (records end) split.0)
     (records end next.0 ++ flat_map (records end) next.1) a b old mid new (done split.0 split.3)
-    (part-before IsReply filter b.number (records end next.0) (flat_map (records end) next.1) mid new part) in
-    subst (λ (l : List (List ℕ)). AddsPart IsReply filter a.number l old new)
+    (part-before IsReply filter end b.place (records end next.0) (flat_map (records end) next.1) mid new part) in
+    subst (λ (l : List (List ℕ)). AddsPart IsReply filter end a.place l old new)
     (sym (ap (flat_map (records end)) (split.2 ∙ ap (λ (l : List (List ℕ)). split.0 ++ l) next.2)
     ∙ flat_map-append (records end) split.0 (next.0 ∷ next.1))) all
 
@@ -179,12 +181,12 @@ fault-of-open (Err faults.Memory) file_at name never there sure is = tt
 -- ---- ends that are passed on
 
 -- what leads to a part leads to it with another fault
-pub leads-error : {E : Type 0} (IsReply : (number : ℕ) → (text line : List ℕ) → RecordOutcome → Type 0)
-    (filter : RecordFilter) (texts : List (List ℕ)) (a b : RecordRun) (old new : Option (List ℕ))
+pub leads-error : {E : Type 0} (IsReply : RecordPlace → (text line : List ℕ) → RecordOutcome → Type 0)
+    (filter : RecordFilter) (end : RecordEnd) (texts : List (List ℕ)) (a b : RecordRun) (old new : Option (List ℕ))
     (why : E) (result : Result Unit E) → IsErrAnd result (λ stated. stated ≡ why)
-    → AddsPart IsReply filter a.lines.number texts old new → LeadsTo IsReply filter texts a b old new result
-leads-error IsReply filter texts a b old new why (Ok done) failed part = absurd failed
-leads-error IsReply filter texts a b old new why (Err fault) failed part = part
+    → AddsPart IsReply filter end a.lines.place texts old new → LeadsTo IsReply filter end texts a b old new result
+leads-error IsReply filter end texts a b old new why (Ok done) failed part = absurd failed
+leads-error IsReply filter end texts a b old new why (Err fault) failed part = part
 
 -- what was opened has the bytes of the text
 pub opened-known : (o held : Option (List ℕ)) (P : List ℕ → Type 0) → IfSome o (λ bytes. held ≡ Some bytes)
@@ -200,9 +202,9 @@ any-known (Some x) P all = all x
 -- ---- a query
 
 -- nothing is written if there is no memory for a run
-pub writes-none : (IsReply : (number : ℕ) → (text line : List ℕ) → RecordOutcome → Type 0) (filter : RecordFilter)
+pub writes-none : (IsReply : RecordPlace → (text line : List ℕ) → RecordOutcome → Type 0) (filter : RecordFilter) (end : RecordEnd)
     (texts : List (List ℕ)) (written : Option (List ℕ)) (why : RecordsFault) (result : Result RecordOutcome RecordsFault)
-    → IsErrAnd result (λ stated. stated ≡ why) → WritesReplies IsReply filter texts written written result
-writes-none IsReply filter texts written why (Ok worst) failed = absurd failed
-writes-none IsReply filter texts written why (Err stated) failed =
-    let part = part-none IsReply filter 1 texts written in (part.part, part.of, part.appends)
+    → IsErrAnd result (λ stated. stated ≡ why) → WritesReplies IsReply filter end texts written written result
+writes-none IsReply filter end texts written why (Ok worst) failed = absurd failed
+writes-none IsReply filter end texts written why (Err stated) failed =
+    let part = part-none IsReply filter end first_place texts written in (part.part, part.of, part.appends)

@@ -1,3 +1,4 @@
-mod FileLemmas
-mod ReplyLemmas
+pub mod FileLemmas
+pub mod ReplyLemmas
 mod RunLemmas
+pub mod WeakerReplies

@@ -17,7 +17,7 @@ returns-then-is_empty-clause-leads g c streams are =
     let none : c.args.query.now.texts.now ≡ [] = grind (arith, common_steps) in
     let one = input-stream run.reader.end (g.O.Opener.file_at c.args.files.now) input
     (map string_bytes c.args.query.now.texts.now) streams (ap (map string_bytes) none) are in
-    let leads = known input one.0 (λ (stream : List ℕ). LeadsTo IsReply filter (records run.reader.end stream) run
+    let leads = known input one.0 (λ (stream : List ℕ). LeadsTo IsReply filter run.reader.end (records run.reader.end stream) run
     c.write_input.new.run old new c.write_input.result) one.1 c.write_input.ensures.leads in
-    subst (λ (l : List (List ℕ)). LeadsTo IsReply filter l run c.write_input.new.run old new c.write_input.result)
+    subst (λ (l : List (List ℕ)). LeadsTo IsReply filter run.reader.end l run c.write_input.new.run old new c.write_input.result)
     (sym one.2) leads
