@@ -39,6 +39,7 @@ PURPOSE = {
     "peg_messages": "a failure or a refusal -> a message",
     "peg_explain": "a parser, a text -> a message, or none",
     "peg_explain_files": "names of files -> messages, a verdict",
+    "peg_explain_records": "names of texts -> the messages of their records, a verdict",
     "peg_test_files": "names of folders -> messages, counts, a verdict",
     "peg_coverage": "a grammar, texts -> the rules and alternatives that they use",
     "peg_coverage_files": "names of texts -> what they use",

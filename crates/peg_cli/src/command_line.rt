@@ -98,7 +98,7 @@ fn profile<'a>(alloc: Global) -> Result<Command<'a>, AllocError> {
 }
 
 fn explain<'a>(alloc: Global) -> Result<Command<'a>, AllocError> {
-    Command::new(alloc, "explain")
+    let explain = Command::new(alloc, "explain")
         .about(
             "Prints where texts don't match a grammar, or why the grammar is refused, for people",
         )
@@ -125,7 +125,22 @@ fn explain<'a>(alloc: Global) -> Result<Command<'a>, AllocError> {
             alloc,
             "quiet",
             "Prints nothing; the exit status alone says the result",
-        ))
+        ))?;
+    with_explained_records(alloc, explain)
+}
+
+// Adds the options of `explain` for records.
+fn with_explained_records<'a>(
+    alloc: Global,
+    explain: Command<'a>,
+) -> Result<Command<'a>, AllocError> {
+    let lines = flag(
+        alloc,
+        "lines",
+        "Explains each record of the texts, or of standard input without texts",
+    )
+    .conflicts_with("files-from")?;
+    explain.arg(lines)?.arg(crlf_flag(alloc)?)
 }
 
 fn test<'a>(alloc: Global) -> Result<Command<'a>, AllocError> {
@@ -238,11 +253,12 @@ fn text_option<'a>(alloc: Global, name: &'a str, value: &'a str, help: &'a str) 
         .help(help)
 }
 
+// About the names in a list, or about records: `--lines` conflicts with a list, so that none is required then.
 fn null_flag<'a>(alloc: Global) -> Result<Arg<'a>, AllocError> {
     flag(
         alloc,
         "null",
-        "Names in the list end at a zero byte instead of a line end",
+        "Names in the list, or records, end at a zero byte instead of a line end",
     )
     .requires_arg("files-from")
 }
@@ -464,6 +480,11 @@ its own start. Columns count bytes from 1. A class or dot is written as the name
 its rule if it failed in a call of the rule that starts at the position. Without
 texts, only the grammar is checked. A refused grammar has a message with its place
 and cause.
+
+With --lines, each record of the texts is a text of its own. A record ends at LF; the
+last one may lack its end. LINE is the record's line in its file. Texts may have any
+length. Without texts the records are those of standard input, which is the FILE of
+their messages. Messages are printed at the end of each block that is read.
 
 Status: 0 all texts match; 1 some text doesn't; 2 the grammar is refused; 3 wrong
 arguments, or an unknown rule; 4 a file can't be opened or read (standard error

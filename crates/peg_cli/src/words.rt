@@ -101,6 +101,20 @@ pub enum Words {
         terminals: bool,
         quiet: bool,
     },
+    /// Print where the records of the text files `texts` don't match grammar file `g`, or those of standard input without
+    /// `texts`, as messages for people. Records end as those of `Records`. The other fields are those of `Explain`.
+    ExplainRecords {
+        g: String,
+        texts: Vec<String>,
+        null: bool,
+        crlf: bool,
+        start: Option<String>,
+        memo: u32,
+        steps: Option<u64>,
+        rules: bool,
+        terminals: bool,
+        quiet: bool,
+    },
     /// Print which texts in the folders `folders` don't do by grammar file `g` what their names ask for, as messages
     /// for people, and how many there are. The other fields are those of `ParseOptions`.
     Test {
@@ -274,6 +288,20 @@ fn explain_of(alloc: Global, matches: &ArgMatches<'_>) -> Result<Words, WordsFau
     ensures asking { IfOk result IsAsking }
     ensures command { IfOk result (IsCommandOf (codes "explain") (found_of matches.now)) }
 {
+    let lines = matches.get_flag("lines");
+    if lines {
+        explain_records_of(alloc, matches)
+    } else {
+        explain_texts_of(alloc, matches)
+    }
+}
+
+// An explanation of texts.
+fn explain_texts_of(alloc: Global, matches: &ArgMatches<'_>) -> Result<Words, WordsFault>
+    ensures asking { IfOk result IsAsking }
+    ensures command { IsFlagAt (found_of matches.now) (codes "lines") false
+        → IfOk result (IsCommandOf (codes "explain") (found_of matches.now)) }
+{
     Ok(Words::Explain {
         g: file_name(alloc, matches, "G")?,
         texts: file_names(alloc, matches, "T")?,
@@ -283,6 +311,27 @@ fn explain_of(alloc: Global, matches: &ArgMatches<'_>) -> Result<Words, WordsFau
         memo: memo_size(alloc, matches)?,
         steps: step_limit(alloc, matches)?,
         rules: matches.get_flag("rules"),
+        terminals: matches.get_flag("terminals"),
+        quiet: matches.get_flag("quiet"),
+    })
+}
+
+// An explanation of the records of texts.
+fn explain_records_of(alloc: Global, matches: &ArgMatches<'_>) -> Result<Words, WordsFault>
+    ensures asking { IfOk result IsAsking }
+    ensures command { IsFlagAt (found_of matches.now) (codes "lines") true
+        → IfOk result (IsCommandOf (codes "explain") (found_of matches.now)) }
+{
+    let rules = matches.get_flag("rules");
+    Ok(Words::ExplainRecords {
+        g: file_name(alloc, matches, "G")?,
+        texts: file_names(alloc, matches, "T")?,
+        null: matches.get_flag("null"),
+        crlf: matches.get_flag("crlf"),
+        start: optional_text(alloc, matches, "start")?,
+        memo: memo_size(alloc, matches)?,
+        steps: step_limit(alloc, matches)?,
+        rules,
         terminals: matches.get_flag("terminals"),
         quiet: matches.get_flag("quiet"),
     })

@@ -1,4 +1,4 @@
-mod FileLemmas
-mod ReplyLemmas
+pub mod FileLemmas
+pub mod ReplyLemmas
 mod RunLemmas
-pub mod StreamLemmas
+pub mod WeakerReplies

@@ -5,11 +5,15 @@ use Rattle.std.proofs.lemmas.List.{append-nil}
 use Rattle.std.proofs.KnownBytes.{Appends-nil, Appends-trans}
 use Rattle.std.specs.Io.KnownBytes.{Appends}
 use Rattle.peg_io.specs.Transfer.{AppendsProperPrefix}
+use Rattle.peg_records.specs.Records.{line_feeds_of}
+use Rattle.peg_records.specs.declared.end.RecordEnd.{RecordEnd}
+use Rattle.peg_record_files.specs.Places.{next_place, place_after}
 use Rattle.peg_record_files.specs.RecordReplies.{HaveReplies, a_record, has_line, no_record, worse_outcome}
 use Rattle.peg_record_files.specs.Runs.{AddsPart, AddsReplies}
 use Rattle.peg_record_files.specs.declared.filter.RecordFilter.{RecordFilter}
 use Rattle.peg_record_files.specs.declared.lines.RecordLines.{RecordLines}
 use Rattle.peg_record_files.specs.declared.outcome.RecordOutcome.{RecordOutcome}
+use Rattle.peg_record_files.specs.declared.place.RecordPlace.{RecordPlace}
 use Rattle.peg_record_files.specs.declared.outcome.RecordOutcome.TheVariants.{Matches, Differs, Refused}
 
 -- ---- outcomes
@@ -28,52 +32,66 @@ worse-assoc Differs Differs Refused = refl
 worse-assoc Differs Refused c = refl
 worse-assoc Refused b c = refl
 
+-- ---- places
+
+place-append : (end : RecordEnd) (place : RecordPlace) (xs ys : List (List ℕ))
+    → place_after end place (xs ++ ys) ≡ place_after end (place_after end place xs) ys
+place-append end place [] ys = refl
+place-append end place (x ∷ xs) ys = place-append end (next_place end place x) xs ys
+
+-- the place after a record with this many line feeds
+pub place-next : (end : RecordEnd) (place after : RecordPlace) (text : List ℕ) (line_feeds : ℕ)
+    → after.number ≡ place.number + 1 → after.line_feeds ≡ place.line_feeds + line_feeds
+    → line_feeds ≡ line_feeds_of end text → after ≡ next_place end place text
+place-next end place after text line_feeds number feeds is =
+    λ i. record { number = number i; line_feeds = (feeds ∙ ap (λ n. place.line_feeds + n) is) i }
+
 -- ---- what is written
 
 -- what is written for the first records and for the others
-pub replies-append : (IsReply : (number : ℕ) → (text line : List ℕ) → RecordOutcome → Type 0) (filter : RecordFilter)
-    (number next : ℕ) (xs ys : List (List ℕ)) (written more : List ℕ) (worst worse : RecordOutcome)
-    → HaveReplies IsReply filter number xs written worst → next ≡ number + length xs
-    → HaveReplies IsReply filter next ys more worse
-    → HaveReplies IsReply filter number (xs ++ ys) (written ++ more) (worse_outcome worst worse)
-replies-append IsReply filter number next [] ys written more worst worse no_record is others =
-    let same : next ≡ number = omega (arith, is) in
-    subst (λ n. HaveReplies IsReply filter n ys more worse) same others
-replies-append IsReply filter number next (x ∷ xs) ys written more worst worse (a_record {line} {later} {outcome} {worst = rest} reply replies) is others =
+pub replies-append : (IsReply : RecordPlace → (text line : List ℕ) → RecordOutcome → Type 0) (filter : RecordFilter) (end : RecordEnd)
+    (place next : RecordPlace) (xs ys : List (List ℕ)) (written more : List ℕ) (worst worse : RecordOutcome)
+    → HaveReplies IsReply filter end place xs written worst → next ≡ place_after end place xs
+    → HaveReplies IsReply filter end next ys more worse
+    → HaveReplies IsReply filter end place (xs ++ ys) (written ++ more) (worse_outcome worst worse)
+replies-append IsReply filter end place next [] ys written more worst worse no_record is others =
+    subst (λ (p : RecordPlace). HaveReplies IsReply filter end p ys more worse) is others
+replies-append IsReply filter end place next (x ∷ xs) ys written more worst worse (a_record {line} {later} {outcome} {worst = rest} reply replies) is others =
     let shown = if has_line filter outcome then line else [] in
-    let counted : next ≡ number + 1 + length xs = omega (arith, is) in
-    let all = a_record reply (replies-append IsReply filter (number + 1) next xs ys later more rest worse replies counted others) in
-    subst (λ (l : List ℕ). HaveReplies IsReply filter number (x ∷ (xs ++ ys)) l (worse_outcome (worse_outcome outcome rest) worse))
+    let all = a_record reply
+    (replies-append IsReply filter end (next_place end place x) next xs ys later more rest worse replies is others) in
+    subst (λ (l : List ℕ). HaveReplies IsReply filter end place (x ∷ (xs ++ ys)) l (worse_outcome (worse_outcome outcome rest) worse))
     (sym (append_assoc shown later more))
-    (subst (λ (o : RecordOutcome). HaveReplies IsReply filter number (x ∷ (xs ++ ys)) (shown ++ (later ++ more)) o)
+    (subst (λ (o : RecordOutcome). HaveReplies IsReply filter end place (x ∷ (xs ++ ys)) (shown ++ (later ++ more)) o)
     (sym (worse-assoc outcome rest worse)) all)
 
 -- ---- what is added
 
-pub adds-none : (IsReply : (number : ℕ) → (text line : List ℕ) → RecordOutcome → Type 0) (filter : RecordFilter)
-    (lines : RecordLines) (bytes : Option (List ℕ)) → AddsReplies IsReply filter [] lines lines bytes bytes
-adds-none IsReply filter lines bytes = record {
+pub adds-none : (IsReply : RecordPlace → (text line : List ℕ) → RecordOutcome → Type 0) (filter : RecordFilter) (end : RecordEnd)
+    (lines : RecordLines) (bytes : Option (List ℕ)) → AddsReplies IsReply filter end [] lines lines bytes bytes
+adds-none IsReply filter end lines bytes = record {
   written = [];
   worst = Matches;
   replies = no_record;
   appends = Appends-nil bytes;
   outcome = sym (worse-none lines.outcome);
-  number = omega arith;
+  place = refl;
 }
 
-pub adds-trans : (IsReply : (number : ℕ) → (text line : List ℕ) → RecordOutcome → Type 0) (filter : RecordFilter)
+pub adds-trans : (IsReply : RecordPlace → (text line : List ℕ) → RecordOutcome → Type 0) (filter : RecordFilter) (end : RecordEnd)
     (xs ys : List (List ℕ)) (a b c : RecordLines) (old mid new : Option (List ℕ))
-    → AddsReplies IsReply filter xs a b old mid → AddsReplies IsReply filter ys b c mid new
-    → AddsReplies IsReply filter (xs ++ ys) a c old new
-adds-trans IsReply filter xs ys a b c old mid new first second = record {
+    → AddsReplies IsReply filter end xs a b old mid → AddsReplies IsReply filter end ys b c mid new
+    → AddsReplies IsReply filter end (xs ++ ys) a c old new
+adds-trans IsReply filter end xs ys a b c old mid new first second = record {
   written = first.written ++ second.written;
   worst = worse_outcome first.worst second.worst;
-  replies = replies-append IsReply filter a.number b.number xs ys first.written second.written first.worst second.worst
-      first.replies first.number second.replies;
+  replies = replies-append IsReply filter end a.place b.place xs ys first.written second.written first.worst second.worst
+      first.replies first.place second.replies;
   appends = Appends-trans old mid new first.written second.written first.appends second.appends;
   outcome = second.outcome ∙ (ap (λ o. worse_outcome o second.worst) first.outcome
       ∙ worse-assoc a.outcome first.worst second.worst);
-  number = grind (arith, common_steps, first.number, second.number);
+  place = second.place ∙ (ap (λ (p : RecordPlace). place_after end p ys) first.place
+      ∙ sym (place-append end a.place xs ys));
 }
 
 -- a line that is kept only if it is shown
@@ -84,14 +102,14 @@ kept-line true before line after len is kept = kept
 kept-line false before line after len is kept = grind (arith, common_steps, is, kept)
 
 -- the line of one record is added
-pub adds-one : (IsReply : (number : ℕ) → (text line : List ℕ) → RecordOutcome → Type 0) (filter : RecordFilter)
+pub adds-one : (IsReply : RecordPlace → (text line : List ℕ) → RecordOutcome → Type 0) (filter : RecordFilter) (end : RecordEnd)
     (text line pushed : List ℕ) (len : ℕ) (shown : Bool) (outcome : RecordOutcome) (before after : RecordLines)
-    → IsReply before.number text line outcome → pushed ≡ before.lines.items ++ line → len ≡ length before.lines.items
+    → IsReply before.place text line outcome → pushed ≡ before.lines.items ++ line → len ≡ length before.lines.items
     → shown ≡ has_line filter outcome
     → after.lines.items ≡ (if shown then pushed else take len pushed)
-    → after.outcome ≡ worse_outcome before.outcome outcome → after.number ≡ before.number + 1
-    → AddsReplies IsReply filter (text ∷ []) before after (Some before.lines.items) (Some after.lines.items)
-adds-one IsReply filter text line pushed len shown outcome before after reply is size shows kept worst number =
+    → after.outcome ≡ worse_outcome before.outcome outcome → after.place ≡ next_place end before.place text
+    → AddsReplies IsReply filter end (text ∷ []) before after (Some before.lines.items) (Some after.lines.items)
+adds-one IsReply filter end text line pushed len shown outcome before after reply is size shows kept worst place =
     let items = kept-line shown before.lines.items line after.lines.items len size
     (subst (λ (l : List ℕ). after.lines.items ≡ (if shown then l else take len l)) is kept) in
     let some = subst (λ (b : Bool). after.lines.items ≡ before.lines.items ++ (if b then line else [])) shows items in
@@ -101,29 +119,29 @@ adds-one IsReply filter text line pushed len shown outcome before after reply is
       replies = a_record reply no_record;
       appends = some ∙ ap (λ (l : List ℕ). before.lines.items ++ l) (sym (append-nil (if has_line filter outcome then line else [])));
       outcome = worst ∙ ap (worse_outcome before.outcome) (sym (worse-none outcome));
-      number = number;
+      place = place;
     }
 
 -- lines that were collected are written
-pub adds-written : (IsReply : (number : ℕ) → (text line : List ℕ) → RecordOutcome → Type 0) (filter : RecordFilter)
+pub adds-written : (IsReply : RecordPlace → (text line : List ℕ) → RecordOutcome → Type 0) (filter : RecordFilter) (end : RecordEnd)
     (texts : List (List ℕ)) (a b c : RecordLines) (xs ys : List ℕ) (old new : Option (List ℕ)) → xs ≡ []
-    → AddsReplies IsReply filter texts a b (Some xs) (Some ys) → Appends old new ys
-    → (c.number ≡ b.number) × (c.outcome ≡ b.outcome) → AddsReplies IsReply filter texts a c old new
-adds-written IsReply filter texts a b c xs ys old new none adds wrote same = record {
+    → AddsReplies IsReply filter end texts a b (Some xs) (Some ys) → Appends old new ys
+    → (c.place ≡ b.place) × (c.outcome ≡ b.outcome) → AddsReplies IsReply filter end texts a c old new
+adds-written IsReply filter end texts a b c xs ys old new none adds wrote same = record {
   written = adds.written;
   worst = adds.worst;
   replies = adds.replies;
   appends = subst (Appends old new) (adds.appends ∙ ap (λ (l : List ℕ). l ++ adds.written) none) wrote;
   outcome = same.1 ∙ adds.outcome;
-  number = same.0 ∙ adds.number;
+  place = same.0 ∙ adds.place;
 }
 
 -- ---- parts
 
 -- nothing is written
-pub part-none : (IsReply : (number : ℕ) → (text line : List ℕ) → RecordOutcome → Type 0) (filter : RecordFilter)
-    (number : ℕ) (texts : List (List ℕ)) (bytes : Option (List ℕ)) → AddsPart IsReply filter number texts bytes bytes
-part-none IsReply filter number texts bytes = record {
+pub part-none : (IsReply : RecordPlace → (text line : List ℕ) → RecordOutcome → Type 0) (filter : RecordFilter) (end : RecordEnd)
+    (place : RecordPlace) (texts : List (List ℕ)) (bytes : Option (List ℕ)) → AddsPart IsReply filter end place texts bytes bytes
+part-none IsReply filter end place texts bytes = record {
   part = [];
   of = record {
     first = [];
@@ -145,11 +163,11 @@ take-past (x ∷ written) more n =
     ap (λ k. take k (x ∷ (written ++ more))) next ∙ ap (λ (l : List ℕ). x ∷ l) (take-past written more n)
 
 -- a part after the first records
-pub part-after : (IsReply : (number : ℕ) → (text line : List ℕ) → RecordOutcome → Type 0) (filter : RecordFilter)
+pub part-after : (IsReply : RecordPlace → (text line : List ℕ) → RecordOutcome → Type 0) (filter : RecordFilter) (end : RecordEnd)
     (xs ys : List (List ℕ)) (a b : RecordLines) (old mid new : Option (List ℕ))
-    → AddsReplies IsReply filter xs a b old mid → AddsPart IsReply filter b.number ys mid new
-    → AddsPart IsReply filter a.number (xs ++ ys) old new
-part-after IsReply filter xs ys a b old mid new first second = record {
+    → AddsReplies IsReply filter end xs a b old mid → AddsPart IsReply filter end b.place ys mid new
+    → AddsPart IsReply filter end a.place (xs ++ ys) old new
+part-after IsReply filter end xs ys a b old mid new first second = record {
   part = first.written ++ second.part;
   of = record {
     first = xs ++ second.of.first;
@@ -157,8 +175,8 @@ part-after IsReply filter xs ys a b old mid new first second = record {
     all = ap (λ (l : List (List ℕ)). xs ++ l) second.of.all ∙ sym (append_assoc xs second.of.first second.of.later);
     written = first.written ++ second.of.written;
     worst = worse_outcome first.worst second.of.worst;
-    replies = replies-append IsReply filter a.number b.number xs second.of.first first.written second.of.written first.worst
-        second.of.worst first.replies first.number second.of.replies;
+    replies = replies-append IsReply filter end a.place b.place xs second.of.first first.written second.of.written first.worst
+        second.of.worst first.replies first.place second.of.replies;
     count = length first.written + second.of.count;
     is = ap (λ (l : List ℕ). first.written ++ l) second.of.is
         ∙ sym (take-past first.written second.of.written second.of.count);
@@ -167,10 +185,10 @@ part-after IsReply filter xs ys a b old mid new first second = record {
 }
 
 -- more records may follow a part
-pub part-before : (IsReply : (number : ℕ) → (text line : List ℕ) → RecordOutcome → Type 0) (filter : RecordFilter)
-    (number : ℕ) (xs ys : List (List ℕ)) (old new : Option (List ℕ)) → AddsPart IsReply filter number xs old new
-    → AddsPart IsReply filter number (xs ++ ys) old new
-part-before IsReply filter number xs ys old new part = record {
+pub part-before : (IsReply : RecordPlace → (text line : List ℕ) → RecordOutcome → Type 0) (filter : RecordFilter) (end : RecordEnd)
+    (place : RecordPlace) (xs ys : List (List ℕ)) (old new : Option (List ℕ)) → AddsPart IsReply filter end place xs old new
+    → AddsPart IsReply filter end place (xs ++ ys) old new
+part-before IsReply filter end place xs ys old new part = record {
   part = part.part;
   of = record {
     first = part.of.first;
@@ -186,18 +204,18 @@ part-before IsReply filter number xs ys old new part = record {
 }
 
 -- what is added for the first records, as a part
-pub adds-part : (IsReply : (number : ℕ) → (text line : List ℕ) → RecordOutcome → Type 0) (filter : RecordFilter)
-    (xs ys : List (List ℕ)) (a b : RecordLines) (old new : Option (List ℕ)) → AddsReplies IsReply filter xs a b old new
-    → AddsPart IsReply filter a.number (xs ++ ys) old new
-adds-part IsReply filter xs ys a b old new adds =
-    part-after IsReply filter xs ys a b old new new adds (part-none IsReply filter b.number ys new)
+pub adds-part : (IsReply : RecordPlace → (text line : List ℕ) → RecordOutcome → Type 0) (filter : RecordFilter) (end : RecordEnd)
+    (xs ys : List (List ℕ)) (a b : RecordLines) (old new : Option (List ℕ)) → AddsReplies IsReply filter end xs a b old new
+    → AddsPart IsReply filter end a.place (xs ++ ys) old new
+adds-part IsReply filter end xs ys a b old new adds =
+    part-after IsReply filter end xs ys a b old new new adds (part-none IsReply filter end b.place ys new)
 
 -- a part of collected lines is written
-pub part-written : (IsReply : (number : ℕ) → (text line : List ℕ) → RecordOutcome → Type 0) (filter : RecordFilter)
+pub part-written : (IsReply : RecordPlace → (text line : List ℕ) → RecordOutcome → Type 0) (filter : RecordFilter) (end : RecordEnd)
     (texts : List (List ℕ)) (a b : RecordLines) (xs ys : List ℕ) (old new : Option (List ℕ)) → xs ≡ []
-    → AddsReplies IsReply filter texts a b (Some xs) (Some ys) → AppendsProperPrefix old new ys
-    → AddsPart IsReply filter a.number texts old new
-part-written IsReply filter texts a b xs ys old new none adds wrote = record {
+    → AddsReplies IsReply filter end texts a b (Some xs) (Some ys) → AppendsProperPrefix old new ys
+    → AddsPart IsReply filter end a.place texts old new
+part-written IsReply filter end texts a b xs ys old new none adds wrote = record {
   part = take wrote.0 ys;
   of = record {
     first = texts;

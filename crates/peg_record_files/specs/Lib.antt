@@ -1,4 +1,5 @@
 pub mod Faults
+pub mod Places
 pub mod RecordReplies
 pub mod Runs
 pub mod Streams

@@ -44,7 +44,7 @@ pub fn write_records<'a, O: Opener, I: Source, W: Sink, P: RecordPrinter>(
     requires reads { I.failed input.old ≡ false }
     requires works { W.failed output.old ≡ false }
     ensures lines { (streams : List (List ℕ)) → AreStreams (O.file_at files.now) (I.left input.old)
-        (map string_bytes query.now.texts.now) streams → WritesReplies (P.replies printer.now) query.now.filter
+        (map string_bytes query.now.texts.now) streams → WritesReplies (P.replies printer.now) query.now.filter query.now.end
         (flat_map (records query.now.end) streams) (W.written output.old) (W.written output.new) result }
     ensures text { IfErr result (IsFaultAmongTexts (O.file_at files.now) (map string_bytes query.now.texts.now)) }
     ensures input { IsErrOf result RecordsFault.Input ↔ (I.failed input.new ≡ true) }
@@ -72,7 +72,7 @@ fn write_all<'a, O: Opener, I: Source, W: Sink, P: RecordPrinter>(
     requires reads { I.failed input.old ≡ false }
     requires works { W.failed output.old ≡ false }
     ensures leads { (streams : List (List ℕ)) → AreStreams (O.file_at files.now) (I.left input.old)
-        (map string_bytes query.now.texts.now) streams → LeadsTo (P.replies printer.now) query.now.filter
+        (map string_bytes query.now.texts.now) streams → LeadsTo (P.replies printer.now) query.now.filter run.old.reader.end
         (flat_map (records run.old.reader.end) streams) run.old run.new (W.written output.old) (W.written output.new)
         result }
     ensures text { IfErr result (IsFaultAmongTexts (O.file_at files.now) (map string_bytes query.now.texts.now)) }
@@ -101,7 +101,7 @@ fn write_input<'a, I: Source, W: Sink, P: RecordPrinter>(
     requires between { IsBetween run.old }
     requires reads { I.failed input.old ≡ false }
     requires works { W.failed output.old ≡ false }
-    ensures leads { IfSome (I.left input.old) (λ stream. LeadsTo (P.replies printer.now) filter
+    ensures leads { IfSome (I.left input.old) (λ stream. LeadsTo (P.replies printer.now) filter run.old.reader.end
         (records run.old.reader.end stream) run.old run.new (W.written output.old) (W.written output.new) result) }
     ensures text { IfErr result IsNoText }
     ensures input { IsErrOf result RecordsFault.Input ↔ (I.failed input.new ≡ true) }
@@ -130,7 +130,7 @@ fn write_texts<'a, O: Opener, W: Sink, P: RecordPrinter>(
     requires works { W.failed output.old ≡ false }
     ensures leads { (streams : List (List ℕ))
         → map (λ (name : List ℕ). bytes_of (O.file_at files.now name)) (map string_bytes query.now.texts.now)
-        ≡ map Some streams → LeadsTo (P.replies printer.now) query.now.filter
+        ≡ map Some streams → LeadsTo (P.replies printer.now) query.now.filter run.old.reader.end
         (flat_map (records run.old.reader.end) streams) run.old run.new (W.written output.old) (W.written output.new)
         result }
     ensures text { IfErr result (IsFaultAmongTexts (O.file_at files.now) (map string_bytes query.now.texts.now)) }
@@ -157,7 +157,7 @@ fn write_text<'a, O: Opener, W: Sink, P: RecordPrinter>(
     requires limit { run.old.reader.limit ≡ P.max_bytes printer.now }
     requires between { IsBetween run.old }
     requires works { W.failed output.old ≡ false }
-    ensures leads { IfSome (bytes_of (O.file_at files.now name.now)) (λ stream. LeadsTo (P.replies printer.now) filter
+    ensures leads { IfSome (bytes_of (O.file_at files.now name.now)) (λ stream. LeadsTo (P.replies printer.now) filter run.old.reader.end
         (records run.old.reader.end stream) run.old run.new (W.written output.old) (W.written output.new) result) }
     ensures between { OnOk result (IsBetween run.new) }
     ensures settings { run_settings run.new ≡ run_settings run.old }
@@ -185,7 +185,7 @@ fn write_source<'a, S: Source, W: Sink, P: RecordPrinter>(
     requires between { IsBetween run.old }
     requires reads { S.failed source.old ≡ false }
     requires works { W.failed output.old ≡ false }
-    ensures leads { IfSome (S.left source.old) (λ stream. LeadsTo (P.replies printer.now) filter
+    ensures leads { IfSome (S.left source.old) (λ stream. LeadsTo (P.replies printer.now) filter run.old.reader.end
         (records run.old.reader.end stream) run.old run.new (W.written output.old) (W.written output.new) result) }
     ensures between { OnOk result (IsBetween run.new) }
     ensures settings { run_settings run.new ≡ run_settings run.old }

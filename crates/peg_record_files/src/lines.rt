@@ -1,19 +1,22 @@
 //! The lines of records that aren't written yet.
-ghost use Rattle.std.specs.Prelude.{◌≡◌, ℕ, ◌+◌, ◌≤◌, ◌∷◌, [], List, IfOk, OnErr, OnOk, false, if◌then◌else◌, is_err, length, take};
+ghost use Rattle.std.specs.Prelude.{◌≡◌, ℕ, ◌≤◌, ◌∷◌, [], List, OnErr, OnOk, false, if◌then◌else◌, is_err, length, take};
 ghost use Rattle.std.specs.Io.KnownBytes.{Appends};
 ghost use Rattle.peg_io.specs.Transfer.{AppendsProperPrefix};
 ghost use Rattle.peg_records.specs.Ahead.{IsGivenFor};
+ghost use Rattle.peg_records.specs.Records.{line_feeds_of};
+ghost use Rattle.peg_records.specs.declared.end.RecordEnd.{RecordEnd};
 
 use crate::filter::RecordFilter;
 use crate::outcome::RecordOutcome;
+use crate::place::RecordPlace;
 use crate::printer::RecordPrinter;
 use peg_io::{DeviceFault, Sink, write_all_bytes};
 use std::alloc::{AllocError, Global};
 
-/// The lines of records that aren't written yet, the number of the next record, and the worst outcome so far.
+/// The lines of records that aren't written yet, the place of the next record, and the worst outcome so far.
 #[derive(Drop)]
 pub(crate) struct RecordLines {
-    pub(crate) number: u64,
+    pub(crate) place: RecordPlace,
     pub(crate) outcome: RecordOutcome,
     pub(crate) lines: Vec<u8>,
 }
@@ -21,34 +24,36 @@ pub(crate) struct RecordLines {
 impl RecordLines {
     ghost use Rattle.peg_record_files.specs.Runs.{AddsToLines, AreNoLines};
 
-    /// Returns no lines. The first record has number 1.
+    /// Returns no lines, before the first record.
     pub(crate) fn new(alloc: Global) -> RecordLines
         ensures { AreNoLines result }
     {
         RecordLines {
-            number: 1,
+            place: RecordPlace::first(),
             outcome: RecordOutcome::Matches,
             lines: Vec::new(alloc),
         }
     }
 
-    /// Adds the line of the next record, of which these bytes are given, if it has one. The only errors are a failed
-    /// allocation and a number that is too large.
+    /// Adds the line of the next record, of which these bytes are given, if it has one. It has this many line feeds, with
+    /// its end. The only errors are a failed allocation and a number that is too large.
     pub(crate) fn push<P: RecordPrinter>(
         &mut self,
         alloc: Global,
         printer: &P,
         filter: RecordFilter,
         given: &[u8],
+        line_feeds: u64,
     ) -> Result<(), AllocError>
-        ensures { (text : List ℕ) → IsGivenFor (P.max_bytes printer.now) given.now text → OnOk result
-            (AddsToLines (P.replies printer.now) filter (text ∷ []) self.old self.new) }
+        ensures { (end : RecordEnd) (text : List ℕ) → IsGivenFor (P.max_bytes printer.now) given.now text
+            → line_feeds ≡ line_feeds_of end text → OnOk result
+            (AddsToLines (P.replies printer.now) filter end (text ∷ []) self.old self.new) }
     {
         let len = self.lines.len();
-        let outcome = printer.push_line(alloc, self.number, given, &mut self.lines)?;
+        let outcome = printer.push_line(alloc, self.place, given, &mut self.lines)?;
         keep_line(&mut self.lines, len, filter.shows(outcome));
         self.outcome = self.outcome.worse(outcome);
-        self.number = next_number(self.number)?;
+        self.place = self.place.after(line_feeds)?;
         Ok(())
     }
 
@@ -60,7 +65,7 @@ impl RecordLines {
             (AppendsProperPrefix (W.written output.old) (W.written output.new) self.old.lines.items) }
         ensures failed { W.failed output.new ≡ is_err result }
         ensures none { OnOk result (self.new.lines.items ≡ []) }
-        ensures same { (self.new.number ≡ self.old.number) × (self.new.outcome ≡ self.old.outcome) }
+        ensures same { (self.new.place ≡ self.old.place) × (self.new.outcome ≡ self.old.outcome) }
     {
         write_all_bytes(output, &self.lines)?;
         self.lines.clear();
@@ -75,15 +80,5 @@ fn keep_line(lines: &mut Vec<u8>, len: usize, is_shown: bool)
 {
     if !is_shown {
         lines.truncate(len);
-    }
-}
-
-// The number after this one.
-fn next_number(number: u64) -> Result<u64, AllocError>
-    ensures { IfOk result (λ next. next ≡ number + 1) }
-{
-    match number.checked_add(1) {
-        Some(next) => Ok(next),
-        None => Err(AllocError),
     }
 }

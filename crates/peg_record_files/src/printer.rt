@@ -2,14 +2,16 @@
 ghost use Rattle.std.specs.Prelude.{◌≡◌, ℕ, ◌≤◌, ◌++◌, List, IfOk};
 ghost use Rattle.peg_records.specs.Ahead.{IsGivenFor};
 ghost use Rattle.peg_record_files.specs.declared.outcome.RecordOutcome.{RecordOutcome};
+ghost use Rattle.peg_record_files.specs.declared.place.RecordPlace.{RecordPlace};
 
 use crate::outcome::RecordOutcome;
+use crate::place::RecordPlace;
 use std::alloc::{AllocError, Global};
 
 /// Makes the lines of records.
 pub trait RecordPrinter {
-    // a record with this number may have this line and this outcome
-    ghost replies: { Self → (number : ℕ) → (text line : List ℕ) → RecordOutcome → Type 0 };
+    // a record at this place may have this line and this outcome
+    ghost replies: { Self → RecordPlace → (text line : List ℕ) → RecordOutcome → Type 0 };
 
     // A longer record may be given in part.
     ghost max_bytes: { Self → ℕ };
@@ -19,16 +21,16 @@ pub trait RecordPrinter {
         ensures bytes { result ≡ max_bytes self.now }
         ensures range { result ≤ 9223372036854775807 };
 
-    /// Appends the line of the record with this number, of which these bytes are given, and returns its outcome.
+    /// Appends the line of the record at this place, of which these bytes are given, and returns its outcome.
     /// Appends a part of it, or nothing, if an allocation fails.
     fn push_line(
         &self,
         alloc: Global,
-        number: u64,
+        place: RecordPlace,
         given: &[u8],
         lines: &mut Vec<u8>,
     ) -> Result<RecordOutcome, AllocError>
         ensures { (text : List ℕ) → IsGivenFor (max_bytes self.now) given.now text → IfOk result (λ outcome.
-            (line : List ℕ) × replies self.now number text line outcome
+            (line : List ℕ) × replies self.now place text line outcome
             × (lines.new.items ≡ lines.old.items ++ line)) };
 }

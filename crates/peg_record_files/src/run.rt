@@ -48,7 +48,7 @@ impl RecordRun {
         requires between { IsBetween self.old }
         requires reads { S.failed input.old ≡ false }
         requires works { W.failed output.old ≡ false }
-        ensures leads { IfSome (S.left input.old) (λ stream. LeadsTo (P.replies printer.now) filter
+        ensures leads { IfSome (S.left input.old) (λ stream. LeadsTo (P.replies printer.now) filter self.old.reader.end
             (records self.old.reader.end stream) self.old self.new (W.written output.old) (W.written output.new) result) }
         ensures between { OnOk result (IsBetween self.new) }
         ensures settings { run_settings self.new ≡ run_settings self.old }
@@ -77,7 +77,7 @@ impl RecordRun {
         requires none { self.old.lines.lines.items ≡ [] }
         requires works { W.failed output.old ≡ false }
         ensures leads { (left : List ℕ) (ahead : List (List ℕ)) → IsAheadOf self.old.reader left ahead
-            → LeadsFirst (P.replies printer.now) filter left ahead self.old self.new (W.written output.old)
+            → LeadsFirst (P.replies printer.now) filter self.old.reader.end left ahead self.old self.new (W.written output.old)
             (W.written output.new) result }
         ensures nothing { OnOk result (rest_of self.new.reader ≡ []) }
         ensures none { OnOk result (self.new.lines.lines.items ≡ []) }
@@ -99,14 +99,15 @@ impl RecordRun {
     ) -> Result<(), AllocError>
         requires { self.old.reader.limit ≡ P.max_bytes printer.now }
         ensures first { (left : List ℕ) (ahead : List (List ℕ)) → IsAheadOf self.old.reader left ahead → OnOk result
-            (AddsFirst (P.replies printer.now) filter left ahead self.old self.new (Some self.old.lines.lines.items)
+            (AddsFirst (P.replies printer.now) filter self.old.reader.end left ahead self.old self.new (Some self.old.lines.lines.items)
             (Some self.new.lines.lines.items)) }
         ensures nothing { OnOk result (rest_of self.new.reader ≡ []) }
         ensures settings { run_settings self.new ≡ run_settings self.old }
     {
         'records: while self.reader.next() {
+            let line_feeds = self.reader.line_feeds();
             self.lines
-                .push(alloc, printer, filter, self.reader.record())?;
+                .push(alloc, printer, filter, self.reader.record(), line_feeds)?;
         }
         Ok(())
     }
@@ -124,7 +125,7 @@ impl RecordRun {
         requires none { self.old.lines.lines.items ≡ [] }
         requires works { W.failed output.old ≡ false }
         ensures leads { (ahead : List (List ℕ)) → IsAheadOf self.old.reader [] ahead
-            → LeadsTo (P.replies printer.now) filter ahead self.old self.new (W.written output.old)
+            → LeadsTo (P.replies printer.now) filter self.old.reader.end ahead self.old self.new (W.written output.old)
             (W.written output.new) result }
         ensures between { OnOk result (IsBetween self.new) }
         ensures settings { run_settings self.new ≡ run_settings self.old }
@@ -146,14 +147,15 @@ impl RecordRun {
         requires limit { self.old.reader.limit ≡ P.max_bytes printer.now }
         requires nothing { rest_of self.old.reader ≡ [] }
         ensures all { (ahead : List (List ℕ)) → IsAheadOf self.old.reader [] ahead → OnOk result
-            (AddsToLines (P.replies printer.now) filter ahead self.old.lines self.new.lines) }
+            (AddsToLines (P.replies printer.now) filter self.old.reader.end ahead self.old.lines self.new.lines) }
         ensures ready { (left : List ℕ) → IsAheadOf self.new.reader left (records self.new.reader.end left) }
         ensures nothing { rest_of self.new.reader ≡ [] }
         ensures settings { run_settings self.new ≡ run_settings self.old }
     {
         if self.reader.last() {
+            let line_feeds = self.reader.line_feeds();
             self.lines
-                .push(alloc, printer, filter, self.reader.record())?;
+                .push(alloc, printer, filter, self.reader.record(), line_feeds)?;
         }
         Ok(())
     }

@@ -2,6 +2,7 @@
 #![tactic(auto)]
 
 mod end;
+mod line_feeds;
 mod reader;
 
 pub use end::RecordEnd;

@@ -2,9 +2,10 @@
 ghost use Rattle.std.specs.Prelude.{◌≡◌, ℕ, ◌<◌, ◌≤◌, false, true, IfOk, IfSome, IsErrOf, List, OnOk, Some, [], length, vec_len};
 ghost use Rattle.std.specs.Prelude.{◌↔◌, ◌+◌, slice_range};
 ghost use Rattle.std.specs.List.{copy_within};
-ghost use Rattle.peg_records.specs.Records.{record_of, records};
+ghost use Rattle.peg_records.specs.Records.{line_feeds_found, record_of, records};
 
 use crate::end::RecordEnd;
+use crate::line_feeds::{line_feeds_found, more_lost};
 use memchr::memchr;
 use peg_io::{ReadFault, Source};
 use std::alloc::{AllocError, Global};
@@ -16,6 +17,7 @@ const BLOCK_BYTES: usize = 65_536;
 ///
 /// A record that is longer than a limit is given in part: as some of its bytes, which are longer than the limit, too.
 /// So a caller that refuses such records needs no more memory for them.
+/// The line feeds of all bytes are counted, so that a caller knows the line of each record.
 ///
 /// # Example
 ///
@@ -40,9 +42,13 @@ pub struct RecordReader {
     held: Vec<u8>,
     start: usize,
     searched: usize,
-    // The record that `record` returns is at these offsets of `held`.
+    // The number of line feeds in the bytes before `start` that belong to no record yet and aren't kept.
+    lost: u64,
+    // The record that `record` returns is at these offsets of `held`. It has this number of line feeds, with its end.
     from: usize,
     to: usize,
+    line_feeds: u64,
+    ghost few: { lost ≤ 4611686018427387904 },
     ghost small: { limit ≤ 9223372036854775807 },
     ghost has_block: { vec_len block ≡ 65536 },
     ghost in_order: { start ≤ searched },
@@ -68,8 +74,10 @@ impl RecordReader {
             held: Vec::new(alloc),
             start: 0,
             searched: 0,
+            lost: 0,
             from: 0,
             to: 0,
+            line_feeds: 0,
         })
     }
 
@@ -78,6 +86,13 @@ impl RecordReader {
         ensures { result.now ≡ record_at self.now }
     {
         &self.held[self.from..self.to]
+    }
+
+    /// Returns the number of line feeds of the record that `next` or `last` found. The end of a record counts, too.
+    pub fn line_feeds(&self) -> u64
+        ensures { result ≡ self.now.line_feeds }
+    {
+        self.line_feeds
     }
 
     /// Finds the next record in memory, for `record`. Returns `false` if there is none that is read to its end. Linear
@@ -111,8 +126,14 @@ impl RecordReader {
         ensures held { self.new.held ≡ self.old.held }
         ensures start { self.new.start ≡ at + 1 }
         ensures searched { self.new.searched ≡ at + 1 }
+        ensures lost { self.new.lost ≡ 0 }
+        ensures line_feeds { self.new.line_feeds ≡ line_feeds_found self.old.end self.old.lost
+            (slice_range self.old.held.items self.old.start at) }
     {
-        let len = self.end.record_len(&self.held[self.start..at]);
+        let part = &self.held[self.start..at];
+        let len = self.end.record_len(part);
+        self.line_feeds = line_feeds_found(self.end, self.lost, part);
+        self.lost = 0;
         self.from = self.start;
         self.to = self.start + len;
         self.start = at + 1;
@@ -129,6 +150,8 @@ impl RecordReader {
         ensures nothing { rest_of self.new ≡ [] }
     {
         let found = self.start < self.held.len();
+        self.line_feeds = line_feeds_found(self.end, self.lost, &self.held[self.start..]);
+        self.lost = 0;
         self.from = self.start;
         self.to = self.held.len();
         self.start = self.held.len();
@@ -152,7 +175,7 @@ impl RecordReader {
         ensures never { S.never_fails input.old ≡ true
             → (S.failed input.new ≡ false) × (S.never_fails input.new ≡ true) }
     {
-        self.keep_start();
+        self.keep_start()?;
         let count = match input.read(self.block.as_mut_slice()) {
             Ok(0) => return Ok(false),
             Ok(count) => count,
@@ -162,21 +185,25 @@ impl RecordReader {
         Ok(true)
     }
 
-    // Moves the start of a record to the front, and cuts it if it is too long.
-    fn keep_start(&mut self)
+    // Moves the start of a record to the front, and cuts it if it is too long. The only error is that there are too many
+    // line feeds in what is cut.
+    fn keep_start(&mut self) -> Result<(), AllocError>
         requires { rest_of self.old ≡ [] }
         ensures ahead { (left : List ℕ) (ahead : List (List ℕ)) → IsAheadOf self.old left ahead
-            → IsAheadOf self.new left ahead }
+            → OnOk result (IsAheadOf self.new left ahead) }
         ensures settings { settings_of self.new ≡ settings_of self.old }
-        ensures nothing { rest_of self.new ≡ [] }
+        ensures nothing { OnOk result (rest_of self.new ≡ []) }
     {
         self.from = 0;
         self.to = 0;
         let len = self.held.len() - self.start;
+        let kept = len.min(self.limit + 2);
+        self.lost = more_lost(self.lost, &self.held[self.start + kept..])?;
         move_to_front(&mut self.held, self.start);
-        self.held.truncate(len.min(self.limit + 2));
+        self.held.truncate(kept);
         self.start = 0;
         self.searched = self.held.len();
+        Ok(())
     }
 }
 

@@ -16,6 +16,7 @@ use Rattle.peg_parser.specs.Fits.{Fits, ResultFits}
 use Rattle.peg_parser.specs.declared.parser.ParseFault.{ParseFault}
 use Rattle.peg_record_files.specs.declared.outcome.RecordOutcome.{RecordOutcome}
 use Rattle.peg_record_files.specs.declared.outcome.RecordOutcome.TheVariants as outcome
+use Rattle.peg_record_files.specs.declared.place.RecordPlace.{RecordPlace}
 use Rattle.peg_records.specs.Ahead.{IsGivenFor}
 use Rattle.peg_semantics.specs.Rules.{Rule}
 use Rattle.peg_semantics.specs.Starts.{start_name}
@@ -84,20 +85,20 @@ given-replies file given text task reply (inl same) is = subst (λ (t : List ℕ
 given-replies file given text task reply (inr long) is = RepliesTo-longer file given text task reply long.0 long.1 is
 
 -- the line and the outcome of a record, for the line of the bytes that are given of it
-pub record-reply : (file given text line : List ℕ) (number status : ℕ) (rules : List Rule) (start : Option (List ℕ))
+pub record-reply : (file given text line : List ℕ) (place : RecordPlace) (status : ℕ) (rules : List Rule) (start : Option (List ℕ))
     (memo : ℕ) (steps : Option ℕ) (all : Bool) (form : TreeForm) (nodes : PrintedNodes) (with_bytes : Bool)
     (outcome : RecordOutcome) → Accepts file rules → first_unknown rules nodes ≡ None → IsSome (start_name rules start)
     → IsGivenFor max_text_bytes given text → (IsStatusOfParse status → outcome_status outcome ≡ status)
     → IsLineOf file (ParsesToAsked rules given start memo steps all form (shown_by rules nodes) with_bytes) line status
-    → IsRecordReply file (ParseTask start memo steps all form nodes with_bytes) number text (record_line number line) outcome
-record-reply file given text line number status rules start memo steps all form nodes with_bytes outcome accepts known
+    → IsRecordReply file (ParseTask start memo steps all form nodes with_bytes) place text (record_line place.number line) outcome
+record-reply file given text line place status rules start memo steps all form nodes with_bytes outcome accepts known
     some is_given ends is =
     let asked = is.1 in
     let same : status ≡ status_of asked.0 = is.3 ∙ ap status_of asked.2 ∙ asked-status with_bytes given asked.0 in
     let task = ParseTask start memo steps all form nodes with_bytes in (
       is.0,
       given-replies file given text task is.0 is_given (parsed accepts known is.1),
-      ap (record_line number) is.2,
+      ap (record_line place.number) is.2,
       ends (subst IsStatusOfParse (sym same)
           (parse-status rules given start memo steps all form (shown_by rules nodes) asked.0 some asked.1)) ∙ is.3,
     )

@@ -9,6 +9,7 @@ use Rattle.peg_parser.specs.Accepts.{Accepts}
 use Rattle.peg_parser.specs.Engine.{rules_shown, shown_parser_rules}
 use Rattle.peg_parser.specs.Parser.{parser_rules, start_named}
 use Rattle.peg_record_files.specs.declared.outcome.RecordOutcome.{RecordOutcome}
+use Rattle.peg_record_files.specs.declared.place.RecordPlace.{RecordPlace}
 use Rattle.peg_semantics.specs.Rules.{Rule}
 use Rattle.peg_semantics.specs.Starts.{start_name}
 use Rattle.peg_replies.specs.Commands.{nodes_asked, parse_task}
@@ -37,9 +38,9 @@ ParsesByRecords parser text reply =
     parser.printing.with_bytes reply
 
 -- the line and the outcome of a record by a parser
-abbrev pub IsReplyBy : RecordParser → (number : ℕ) → (text line : List ℕ) → RecordOutcome → Type 0
-IsReplyBy parser number text line outcome = (file : List ℕ) → IsRecordParserOf file parser
-    → IsRecordReply file (parse_task parser.options parser.printing) number text line outcome
+abbrev pub IsReplyBy : RecordParser → RecordPlace → (text line : List ℕ) → RecordOutcome → Type 0
+IsReplyBy parser place text line outcome = (file : List ℕ) → IsRecordParserOf file parser
+    → IsRecordReply file (parse_task parser.options parser.printing) place text line outcome
 
 -- the line that reports a name that no rule has, or that there is no such name
 abbrev pub IsUnknownName : (file : List ℕ) → List Rule → ParseOptions → TreePrinting → Option Line → Type 0

@@ -5,6 +5,7 @@ use Rattle.peg_json.specs.Reply.{Reply, printed_line, status_of}
 use Rattle.peg_parser.specs.Accepts.{Accepts}
 use Rattle.peg_record_files.specs.declared.outcome.RecordOutcome.{RecordOutcome}
 use Rattle.peg_record_files.specs.declared.outcome.RecordOutcome.TheVariants.{Matches, Differs, Refused}
+use Rattle.peg_record_files.specs.declared.place.RecordPlace.{RecordPlace}
 use Rattle.peg_semantics.specs.Rules.{Rule}
 use Rattle.peg_semantics.specs.Starts.{start_name}
 use Rattle.peg_replies.specs.PrintedNodes.{first_unknown}
@@ -21,11 +22,11 @@ outcome_status Refused = 6
 abbrev pub IsStatusOfParse : ℕ → Type 0
 IsStatusOfParse status = (outcome : RecordOutcome) × (status ≡ outcome_status outcome)
 
--- The line and the outcome of the record with a number: those of the reply to a task on a grammar file and the record as
--- its text. The line has the number as its first member.
-abbrev pub IsRecordReply : (file : List ℕ) → ToolTask → (number : ℕ) → (text line : List ℕ) → RecordOutcome → Type 0
-IsRecordReply file task number text line outcome = (reply : Reply) × RepliesTo file text task reply
-    × (line ≡ record_line number (printed_line file reply)) × (outcome_status outcome ≡ status_of reply)
+-- The line and the outcome of the record at a place: those of the reply to a task on a grammar file and the record as
+-- its text. The line has the number of the place as its first member.
+abbrev pub IsRecordReply : (file : List ℕ) → ToolTask → RecordPlace → (text line : List ℕ) → RecordOutcome → Type 0
+IsRecordReply file task place text line outcome = (reply : Reply) × RepliesTo file text task reply
+    × (line ≡ record_line place.number (printed_line file reply)) × (outcome_status outcome ≡ status_of reply)
 
 -- texts can be parsed: the grammar file is accepted, and its rules have the names of the task
 abbrev pub HasParse : ToolTask → (file : List ℕ) → Type 0

@@ -13,7 +13,7 @@ use crate::tree_printing::TreePrinting;
 use peg_grammar::MAX_TEXT_BYTES;
 use peg_json::{Line, Status, push_record_line};
 use peg_parser::{ParseOptions, Parser, ShownParser};
-use peg_record_files::{RecordOutcome, RecordPrinter};
+use peg_record_files::{RecordOutcome, RecordPlace, RecordPrinter};
 use std::alloc::{AllocError, Global};
 
 /// What parses the records of texts by an accepted grammar file. `prepare_records` makes one. It has two parsers of the
@@ -42,13 +42,13 @@ impl RecordPrinter for RecordParser<'_> {
     fn push_line(
         &self,
         alloc: Global,
-        number: u64,
+        place: RecordPlace,
         given: &[u8],
         lines: &mut Vec<u8>,
     ) -> Result<RecordOutcome, AllocError> {
         let line = self.line_of(alloc, given)?;
         let outcome = outcome_of(line.status);
-        push_record_line(lines, number, line)?;
+        push_record_line(lines, place.number, line)?;
         Ok(outcome)
     }
 }

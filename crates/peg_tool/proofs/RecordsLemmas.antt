@@ -2,11 +2,12 @@
 use Rattle.std.proofs.Common.{◌≡◌, ◌≢◌, ◌⊎◌, ◌↔◌, ℕ, ◌+◌, All, Bool, true, false, List, [], ◌∷◌, ◌++◌, Option, None, Some}
 use Rattle.std.proofs.Common.{Result, Ok, Err, IfErr, IfSome, IsErrAnd, inl, inr, ap, arith, refl, subst, sym, ◌∙◌}
 use Rattle.std.proofs.lemmas.List.{get_or-map, length-map}
-use Rattle.std.proofs.lemmas.List.Elements.{All-contains, Contains-append_left, Contains-append_right}
+use Rattle.std.proofs.lemmas.List.Elements.{All-contains, Contains-append_left, Contains-append_right, Contains-push}
 use Rattle.std.specs.Io.KnownBytes.{Keeps}
 use Rattle.std.specs.Prelude.{Contains, IsErrOf}
 use Rattle.std.specs.Result.{result_err}
 use Rattle.std.specs.declared.io.ErrorKind.{ErrorKind}
+use Rattle.peg_explain_records.specs.Questions.{RecordsQuestion}
 use Rattle.peg_io.specs.NamedFile.{NamedFile, IsMissing, is_readable}
 use Rattle.peg_json.specs.Lines.{line_bytes}
 use Rattle.peg_json.specs.Statuses.{status_code}
@@ -15,21 +16,23 @@ use Rattle.peg_messages.specs.FileNames.{shown_name}
 use Rattle.peg_parser.specs.Parser.{parser_rules}
 use Rattle.peg_records.specs.declared.end.RecordEnd.{RecordEnd}
 use Rattle.peg_record_files.specs.Faults.{IsFaultAmongTexts}
-use Rattle.peg_record_files.specs.RecordReplies.{HaveReplies, WritesReplies, a_record, no_record}
+use Rattle.peg_record_files.specs.RecordReplies.{WritesReplies}
 use Rattle.peg_record_files.specs.declared.fault.RecordsFault.{RecordsFault}
 use Rattle.peg_record_files.specs.declared.fault.RecordsFault.TheVariants as reading
 use Rattle.peg_record_files.specs.declared.filter.RecordFilter.{RecordFilter}
 use Rattle.peg_record_files.specs.declared.outcome.RecordOutcome.{RecordOutcome}
+use Rattle.peg_record_files.proofs.WeakerReplies.{writes-weaker}
 use Rattle.peg_replies.specs.Commands.{parse_task}
 use Rattle.peg_replies.specs.RecordParsers.{IsRecordParserOf, IsReplyBy}
 use Rattle.peg_replies.specs.RecordReplies.{HasParse, IsRecordReply, RefusesRecords, outcome_status}
 use Rattle.peg_replies.specs.Task.{ToolTask}
 use Rattle.peg_replies.specs.declared.record_parser.RecordParser.{RecordParser}
-use Rattle.peg_tool.specs.CommandOutcome.{RecordsOutcome, WritesOrFails, records_result}
+use Rattle.peg_tool.specs.CommandOutcome.{RecordsOutcome, WritesOrFails}
 use Rattle.peg_tool.specs.Faults.{IsFaultAmong, IsFaultAt, plain_fault, plain_result, record_streams, standard_input, standard_output}
 use Rattle.peg_tool.specs.RecordFaults.{EndsRecords, HasFaultOfRecords}
+use Rattle.peg_tool.specs.RecordResults.{records_result}
 use Rattle.peg_tool.specs.RequestContract.{EndsAs}
-use Rattle.peg_tool.specs.Requests.{RecordsRequest}
+use Rattle.peg_tool.specs.Requests.{ExplainRecordsRequest, RecordsRequest}
 use Rattle.peg_tool.specs.WritesRequest.{WritesRequestReply}
 use Rattle.peg_tool.specs.declared.fault.RequestFault.{RequestFault}
 use Rattle.peg_tool.specs.declared.fault.RequestFault.TheVariants as failed
@@ -40,42 +43,14 @@ use Rattle.peg_tool.proofs.CoverageLemmas.{at-among, ended-among, last-among}
 
 -- ---- the lines of records
 
-module _ (P Q : (number : ℕ) → (text line : List ℕ) → RecordOutcome → Type 0) (filter : RecordFilter)
-    (more : (number : ℕ) (text line : List ℕ) (outcome : RecordOutcome) → P number text line outcome
-    → Q number text line outcome) where
-  -- what is written by one definition of replies is written by a weaker one
-  replies-weaker : (number : ℕ) (texts : List (List ℕ)) (written : List ℕ) (worst : RecordOutcome)
-      → HaveReplies P filter number texts written worst → HaveReplies Q filter number texts written worst
-  replies-weaker number [] written worst no_record = no_record
-  replies-weaker number (text ∷ texts) written worst (a_record {line} {later} {outcome} {worst = rest} reply replies) =
-      a_record (more number text line outcome reply) (replies-weaker (number + 1) texts later rest replies)
-
-  pub writes-weaker : (texts : List (List ℕ)) (old new : Option (List ℕ)) (ended : Result RecordOutcome RecordsFault)
-      → WritesReplies P filter texts old new ended → WritesReplies Q filter texts old new ended
-  writes-weaker texts old new (Ok worst) is = (is.0, replies-weaker 1 texts is.0 worst is.1, is.2)
-  writes-weaker texts old new (Err fault) is = (
-    is.0,
-    record {
-      first = is.1.first;
-      later = is.1.later;
-      all = is.1.all;
-      written = is.1.written;
-      worst = is.1.worst;
-      replies = replies-weaker 1 is.1.first is.1.written is.1.worst is.1.replies;
-      count = is.1.count;
-      is = is.1.is;
-    },
-    is.2,
-  )
-
 -- the lines of records by a parser are those by its grammar file
-pub records-by : (file : List ℕ) (parser : RecordParser) (filter : RecordFilter) (texts : List (List ℕ))
+pub records-by : (file : List ℕ) (parser : RecordParser) (filter : RecordFilter) (end : RecordEnd) (texts : List (List ℕ))
     (old new : Option (List ℕ)) (ended : Result RecordOutcome RecordsFault) → IsRecordParserOf file parser
-    → WritesReplies (IsReplyBy parser) filter texts old new ended
-    → WritesReplies (IsRecordReply file (parse_task parser.options parser.printing)) filter texts old new ended
-records-by file parser filter texts old new ended of is =
-    writes-weaker (IsReplyBy parser) (IsRecordReply file (parse_task parser.options parser.printing)) filter
-    (λ number text line outcome reply. reply file of) texts old new ended is
+    → WritesReplies (IsReplyBy parser) filter end texts old new ended
+    → WritesReplies (IsRecordReply file (parse_task parser.options parser.printing)) filter end texts old new ended
+records-by file parser filter end texts old new ended of is =
+    writes-weaker (IsReplyBy parser) (IsRecordReply file (parse_task parser.options parser.printing)) filter end
+    (λ place text line outcome reply. reply file of) texts old new ended is
 
 -- records can be parsed by a grammar file that has a parser
 pub has-parse : (file : List ℕ) (parser : RecordParser) → IsRecordParserOf file parser
@@ -130,49 +105,65 @@ all-among (failed.Device at kind) first last names has =
     Contains-append_left (first ∷ names) (last ∷ []) _ (Contains-append_right (first ∷ []) names _ has)
 all-among failed.Memory first last names has = tt
 
-pub records-among : (first : List ℕ) (names : List (List ℕ)) (output_failed : Bool) (output : Option ErrorKind)
-    (result : Result ℕ RequestFault) → (output_failed ≡ false → IfErr result (IsFaultAmong names))
+pub records-among : {X : Type 0} (first : List ℕ) (names : List (List ℕ)) (output_failed : Bool)
+    (output : Option ErrorKind) (result : Result X RequestFault) → (output_failed ≡ false → IfErr result (IsFaultAmong names))
     → (output_failed ≡ true → IfErr result (IsFaultAt standard_output output))
     → IfErr result (IsFaultAmong (first ∷ names ++ standard_output ∷ []))
-records-among first names output_failed output (Ok status) cause written = tt
+records-among first names output_failed output (Ok done) cause written = tt
 records-among first names false output (Err fault) cause written =
     all-among fault first standard_output names (cause refl)
-records-among first names true output (Err fault) cause written =
-    ended-among {X = ℕ} (Err fault) (first ∷ names ++ standard_output ∷ []) output (written refl)
+records-among {X} first names true output (Err fault) cause written =
+    ended-among {X = X} (Err fault) (first ∷ names ++ standard_output ∷ []) output (written refl)
     (last-among first standard_output names)
+
+-- the same of an explanation of records, which has no other fault
+all-among-last : (fault : RequestFault) (last : List ℕ) (names : List (List ℕ)) → IsFaultAmong names fault
+    → IsFaultAmong (names ++ last ∷ []) fault
+all-among-last (failed.Device at kind) last names has = Contains-append_left names (last ∷ []) _ has
+all-among-last failed.Memory last names has = tt
+
+pub explained-among : {X : Type 0} (names : List (List ℕ)) (output_failed : Bool) (output : Option ErrorKind)
+    (result : Result X RequestFault) → (output_failed ≡ false → IfErr result (IsFaultAmong names))
+    → (output_failed ≡ true → IfErr result (IsFaultAt standard_output output))
+    → IfErr result (IsFaultAmong (names ++ standard_output ∷ []))
+explained-among names output_failed output (Ok done) cause written = tt
+explained-among names false output (Err fault) cause written = all-among-last fault standard_output names (cause refl)
+explained-among {X} names true output (Err fault) cause written =
+    ended-among {X = X} (Err fault) (names ++ standard_output ∷ []) output (written refl) (Contains-push names standard_output)
 
 -- ---- faults
 
 -- a fault of a device that ends records of readable texts is that of the input or the output
-device-fault : (file_at : List ℕ → NamedFile) (names : List (List ℕ)) (ended : Result RecordOutcome RecordsFault)
-    → records_result ended ≡ Err File → IfErr ended (IsFaultAmongTexts file_at names)
+device-fault : {T X : Type 0} (value : T → X) (file_at : List ℕ → NamedFile) (names : List (List ℕ))
+    (ended : Result T RecordsFault) → records_result value ended ≡ Err File → IfErr ended (IsFaultAmongTexts file_at names)
     → All (λ text. is_readable (file_at text) ≡ true) names
     → IsErrOf ended reading.Input ⊎ IsErrOf ended reading.Output
-device-fault file_at names (Ok worst) is among readable = absurd (let bad : Ok (outcome_status worst) ≡ Err File = is in cc)
-device-fault file_at names (Err (reading.Text name kind)) is among readable =
+device-fault value file_at names (Ok ended) is among readable = absurd (let bad : Ok (value ended) ≡ Err File = is in cc)
+device-fault value file_at names (Err (reading.Text name kind)) is among readable =
     let holds = All-contains (λ (text : List ℕ). is_readable (file_at text) ≡ true) names name.now readable among.0 in
     absurd (let bad : false ≡ true = sym among.1.1 ∙ holds in cc)
-device-fault file_at names (Err reading.Input) is among readable = inl refl
-device-fault file_at names (Err reading.Output) is among readable = inr refl
-device-fault file_at names (Err reading.Memory) is among readable =
+device-fault value file_at names (Err reading.Input) is among readable = inl refl
+device-fault value file_at names (Err reading.Output) is among readable = inr refl
+device-fault value file_at names (Err reading.Memory) is among readable =
     absurd (let bad : Some Memory ≡ Some File = ap result_err is in cc)
 
 -- without a failed output the fault is that of a text, or of the input without texts
-fault-cause : (file_at : List ℕ → NamedFile) (names : List (List ℕ)) (input output : Option ErrorKind)
-    (ended : Result RecordOutcome RecordsFault) (result : Result ℕ RequestFault) → plain_result result ≡ records_result ended
+fault-cause : {T X : Type 0} (value : T → X) (file_at : List ℕ → NamedFile) (names : List (List ℕ))
+    (input output : Option ErrorKind) (ended : Result T RecordsFault) (result : Result X RequestFault)
+    → plain_result result ≡ records_result value ended
     → HasFaultOfRecords ended input output result → IfErr ended (IsFaultAmongTexts file_at names)
     → (IsErrOf ended reading.Input → names ≡ []) → ¬ IsErrOf ended reading.Output
     → IfErr result (IsFaultAmong (record_streams names))
-fault-cause file_at names input output ended (Ok status) plain has among alone works = tt
-fault-cause file_at names input output (Ok worst) (Err fault) plain has among alone works =
-    absurd (let bad : Err (plain_fault fault) ≡ Ok (outcome_status worst) = plain in cc)
-fault-cause file_at names input output (Err (reading.Text name kind)) (Err fault) plain has among alone works =
+fault-cause value file_at names input output ended (Ok done) plain has among alone works = tt
+fault-cause value file_at names input output (Ok done) (Err fault) plain has among alone works =
+    absurd (let bad : Err (plain_fault fault) ≡ Ok (value done) = plain in cc)
+fault-cause value file_at names input output (Err (reading.Text name kind)) (Err fault) plain has among alone works =
     subst (IsFaultAmong (record_streams names)) (sym has) (stream-among names name.now among.0)
-fault-cause file_at names input output (Err reading.Input) (Err fault) plain has among alone works =
+fault-cause value file_at names input output (Err reading.Input) (Err fault) plain has among alone works =
     subst (λ (texts : List (List ℕ)). IsFaultAmong (record_streams texts) fault) (sym (alone refl))
     (at-among fault (standard_input ∷ []) standard_input input has (0, omega arith, refl))
-fault-cause file_at names input output (Err reading.Output) (Err fault) plain has among alone works = absurd (works refl)
-fault-cause file_at names input output (Err reading.Memory) (Err fault) plain has among alone works =
+fault-cause value file_at names input output (Err reading.Output) (Err fault) plain has among alone works = absurd (works refl)
+fault-cause value file_at names input output (Err reading.Memory) (Err fault) plain has among alone works =
     subst (IsFaultAmong (record_streams names)) (sym has) tt
 
 -- only without texts is the input read
@@ -184,18 +175,18 @@ reads-alone (name ∷ names) input_failed unread failed =
     absurd (let bad : false ≡ true = sym none ∙ failed in cc)
 
 -- which fault ends a request whose records are read
-pub records-end : (file_at : List ℕ → NamedFile) (names : List (List ℕ)) (input_failed output_failed : Bool)
-    (input output : Option ErrorKind) (ended : Result RecordOutcome RecordsFault) (result : Result ℕ RequestFault)
-    → plain_result result ≡ records_result ended → HasFaultOfRecords ended input output result
+pub records-end : {T X : Type 0} (value : T → X) (file_at : List ℕ → NamedFile) (names : List (List ℕ))
+    (input_failed output_failed : Bool) (input output : Option ErrorKind) (ended : Result T RecordsFault)
+    (result : Result X RequestFault) → plain_result result ≡ records_result value ended → HasFaultOfRecords ended input output result
     → IfErr ended (IsFaultAmongTexts file_at names) → (IsErrOf ended reading.Input ↔ (input_failed ≡ true))
     → (IsErrOf ended reading.Output ↔ (output_failed ≡ true)) → (names ≢ [] → input_failed ≡ false)
     → EndsRecords file_at names input_failed output_failed input output result
-records-end file_at names input_failed output_failed input output ended result plain has among reads writes unread =
-    let read : input_failed ≡ true → plain_result result ≡ Err File = λ bad. plain ∙ ap records_result (reads.1 bad) in
-    let written : output_failed ≡ true → plain_result result ≡ Err File = λ bad. plain ∙ ap records_result (writes.1 bad) in
+records-end {T} value file_at names input_failed output_failed input output ended result plain has among reads writes unread =
+    let read : input_failed ≡ true → plain_result result ≡ Err File = λ bad. plain ∙ ap (records_result value) (reads.1 bad) in
+    let written : output_failed ≡ true → plain_result result ≡ Err File = λ bad. plain ∙ ap (records_result value) (writes.1 bad) in
     record {
       device = λ readable. (
-        λ is. elim (device-fault file_at names ended (sym plain ∙ is) among readable) [
+        λ is. elim (device-fault value file_at names ended (sym plain ∙ is) among readable) [
           | inl bad ↦ inl (reads.0 bad)
           | inr bad ↦ inr (writes.0 bad)
         ],
@@ -203,9 +194,9 @@ records-end file_at names input_failed output_failed input output ended result p
       );
       read_fault = read;
       write_fault = written;
-      input = λ bad. subst (λ (e : Result RecordOutcome RecordsFault). HasFaultOfRecords e input output result) (reads.1 bad) has;
-      output = λ bad. subst (λ (e : Result RecordOutcome RecordsFault). HasFaultOfRecords e input output result) (writes.1 bad) has;
-      cause = λ works. fault-cause file_at names input output ended result plain has among
+      input = λ bad. subst (λ (e : Result T RecordsFault). HasFaultOfRecords e input output result) (reads.1 bad) has;
+      output = λ bad. subst (λ (e : Result T RecordsFault). HasFaultOfRecords e input output result) (writes.1 bad) has;
+      cause = λ works. fault-cause value file_at names input output ended result plain has among
           (λ bad. reads-alone names input_failed unread (reads.0 bad))
           (λ bad. let both : false ≡ true = sym works ∙ writes.0 bad in cc);
     }
@@ -240,15 +231,15 @@ refusal-end file_at names input_failed output_failed input output result works f
 -- ---- requests
 
 -- a fault that is passed on is the fault of the result
-pub passed-fault : (ended : Result ℕ RequestFault) (fault : RequestFault) (result : Result Report RequestFault)
+pub passed-fault : {X : Type 0} (ended : Result X RequestFault) (fault : RequestFault) (result : Result Report RequestFault)
     → ended ≡ Err fault → IsErrAnd result (λ stated. stated ≡ fault)
     → result_err (plain_result result) ≡ result_err (plain_result ended)
 passed-fault ended fault (Ok it) was is = absurd is
 passed-fault ended fault (Err stated) was is =
     ap (λ f. Some (plain_fault f)) is ∙ sym (ap (λ r. result_err (plain_result r)) was)
 
-file-error : (result : Result ℕ ProgramFault) → result_err result ≡ Some File → result ≡ Err File
-file-error (Ok status) is = absurd (let bad : None ≡ Some File = is in cc)
+file-error : {X : Type 0} (result : Result X ProgramFault) → result_err result ≡ Some File → result ≡ Err File
+file-error (Ok done) is = absurd (let bad : None ≡ Some File = is in cc)
 file-error (Err fault) is = let same : fault ≡ File = cc in ap Err same
 
 -- how a request for records ends
@@ -270,6 +261,32 @@ request-end task g texts end filter file_at input_failed output_failed SameInput
       device_fault = λ readable. (
         λ is. (device readable.0 readable.1).0 (file-error (plain_result ended) (sym same ∙ is)),
         λ bad. same ∙ ap result_err ((device readable.0 readable.1).1 bad),
+      );
+      write_fault = λ bad. same ∙ ap result_err (written bad);
+      input_fault = λ reads bad. same ∙ ap result_err (read bad);
+      explain_fault = λ none. absurd none;
+      test_fault = λ none. absurd none;
+      memory = λ late. absurd (late tt);
+    }
+
+-- how a request for an explanation of records ends
+pub explained-end : {X : Type 0} (question : RecordsQuestion) (file_at : List ℕ → NamedFile)
+    (input_failed output_failed : Bool) (SameInput SameOutput : Type 0) (old new : Option (List ℕ))
+    (ended : Result X RequestFault) (fault : Option ProgramFault) → fault ≡ result_err (plain_result ended)
+    → (question.texts ≢ [] → SameInput)
+    → (All (λ text. is_readable (file_at text) ≡ true) question.texts
+    → (IsErrOf (plain_result ended) File ↔ ((input_failed ≡ true) ⊎ (output_failed ≡ true))))
+    → (input_failed ≡ true → IsErrOf (plain_result ended) File)
+    → (output_failed ≡ true → IsErrOf (plain_result ended) File)
+    → EndsAs (ExplainRecordsRequest question) file_at fault input_failed output_failed SameInput SameOutput old new
+explained-end question file_at input_failed output_failed SameInput SameOutput old new ended fault same alone device read
+    written = record {
+      unread = alone;
+      no_grammar = λ none. absurd none;
+      no_text = λ none. absurd none;
+      device_fault = λ readable. (
+        λ is. (device readable).0 (file-error (plain_result ended) (sym same ∙ is)),
+        λ bad. same ∙ ap result_err ((device readable).1 bad),
       );
       write_fault = λ bad. same ∙ ap result_err (written bad);
       input_fault = λ reads bad. same ∙ ap result_err (read bad);

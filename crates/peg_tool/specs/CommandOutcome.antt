@@ -13,14 +13,14 @@ use Rattle.peg_records.specs.declared.end.RecordEnd.{RecordEnd}
 use Rattle.peg_record_files.specs.RecordReplies.{WritesReplies}
 use Rattle.peg_record_files.specs.Streams.{AreStreams}
 use Rattle.peg_record_files.specs.declared.fault.RecordsFault.{RecordsFault}
-use Rattle.peg_record_files.specs.declared.fault.RecordsFault.TheVariants as reading
 use Rattle.peg_record_files.specs.declared.filter.RecordFilter.{RecordFilter}
 use Rattle.peg_record_files.specs.declared.outcome.RecordOutcome.{RecordOutcome}
 use Rattle.peg_replies.specs.RecordReplies.{HasParse, IsRecordReply, RefusesRecords, outcome_status}
 use Rattle.peg_replies.specs.Replies.{IsPrinted, IsPrintedJoined}
 use Rattle.peg_replies.specs.Task.{ToolTask}
 use Rattle.peg_tool.specs.TestOutcome.{TestOutcome}
-use Rattle.peg_tool.specs.Requests.{ToolRequest, InputRequest, HelpRequest, FileRequest, FilesRequest, CoverRequest, ExplainRequest, TestRequest, RecordsRequest}
+use Rattle.peg_tool.specs.RecordResults.{RecordsExplanation, records_result}
+use Rattle.peg_tool.specs.Requests.{ToolRequest, InputRequest, HelpRequest, FileRequest, FilesRequest, CoverRequest, ExplainRequest, ExplainRecordsRequest, TestRequest, RecordsRequest}
 use Rattle.peg_replies.specs.Written.{PrintsInPart}
 use Rattle.peg_tool.specs.declared.report.Findings.{Findings}
 use Rattle.peg_tool.specs.declared.program.ProgramFault.{ProgramFault}
@@ -42,19 +42,12 @@ IsHelp text line status = (line ≡ text) × (status ≡ 0)
 
 -- ---- records
 
--- the result of a request for that of its records: the exit status is that of the worst record
-abbrev pub records_result : Result RecordOutcome RecordsFault → Result ℕ ProgramFault
-records_result (Ok worst) = Ok (outcome_status worst)
-records_result (Err (reading.Text name kind)) = Err File
-records_result (Err reading.Input) = Err File
-records_result (Err reading.Output) = Err File
-records_result (Err reading.Memory) = Err Memory
-
--- what is written for records by a grammar file: their lines in order, or with a fault a part of them
-abbrev pub WritesRecords : ToolTask → RecordFilter → (file : List ℕ) → (texts : List (List ℕ))
+-- What is written for records by a grammar file: their lines in order, or with a fault a part of them. The exit status is
+-- that of the worst record.
+abbrev pub WritesRecords : ToolTask → RecordFilter → RecordEnd → (file : List ℕ) → (texts : List (List ℕ))
     → (old new : Option (List ℕ)) → Result ℕ ProgramFault → Type 0
-WritesRecords task filter file texts old new result = (ended : Result RecordOutcome RecordsFault)
-    × WritesReplies (IsRecordReply file task) filter texts old new ended × (result ≡ records_result ended)
+WritesRecords task filter end file texts old new result = (ended : Result RecordOutcome RecordsFault)
+    × WritesReplies (IsRecordReply file task) filter end texts old new ended × (result ≡ records_result outcome_status ended)
 
 -- How a task on a grammar file and the records of texts ends. If the file is refused, or a name of the task is unknown,
 -- a line says so, and no record is read. It promises nothing of the records if the bytes of a text aren't specified.
@@ -64,7 +57,7 @@ abbrev pub RecordsOutcome : ToolTask → (file : List ℕ) → (texts : List (Li
 RecordsOutcome task file texts end filter file_at input old new result =
     WritesOrFails (RefusesRecords task file) old new result
     ⊎ (HasParse task file × ((streams : List (List ℕ)) → AreStreams file_at input texts streams
-    → WritesRecords task filter file (flat_map (records end) streams) old new result))
+    → WritesRecords task filter end file (flat_map (records end) streams) old new result))
 
 -- ---- requests
 
@@ -97,6 +90,9 @@ RequestOutcome (CoverRequest start memo steps needed g texts) file_at input old 
     × (ended ≡ found_result found)
 RequestOutcome (ExplainRequest question printing) file_at input old new ended =
     (found : Result Findings ProgramFault) × ExplanationOutcome question printing file_at input old new found
+    × (ended ≡ found_result found)
+RequestOutcome (ExplainRecordsRequest question) file_at input old new ended =
+    (found : Result Findings ProgramFault) × RecordsExplanation question file_at input old new found
     × (ended ≡ found_result found)
 RequestOutcome (TestRequest question) file_at input old new ended =
     (found : Result Findings ProgramFault) × TestOutcome question file_at old new found × (ended ≡ found_result found)

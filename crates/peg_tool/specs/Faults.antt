@@ -4,7 +4,7 @@ use Rattle.std.specs.declared.io.ErrorKind.{ErrorKind}
 use Rattle.peg_io.specs.NamedFile.{NamedFile, IsMissing, is_readable}
 use Rattle.peg_io.specs.Reasons.{reason_of}
 use Rattle.peg_messages.specs.FileNames.{shown_name}
-use Rattle.peg_tool.specs.Requests.{ToolRequest, InputRequest, HelpRequest, FileRequest, FilesRequest, CoverRequest, ExplainRequest, TestRequest, RecordsRequest}
+use Rattle.peg_tool.specs.Requests.{ToolRequest, InputRequest, HelpRequest, FileRequest, FilesRequest, CoverRequest, ExplainRequest, ExplainRecordsRequest, TestRequest, RecordsRequest}
 use Rattle.peg_tool.specs.declared.fault.RequestFault.{RequestFault}
 use Rattle.peg_tool.specs.declared.fault.RequestFault.TheVariants as failed
 use Rattle.peg_tool.specs.declared.fault.Stream.{Stream}
@@ -29,8 +29,8 @@ abbrev pub record_streams : (texts : List (List ℕ)) → List (List ℕ)
 record_streams [] = standard_input ∷ []
 record_streams (text ∷ texts) = map shown_name (text ∷ texts)
 
--- What a request opens, reads or writes, by the names in messages. An explanation or a test has
--- lines of its own for its files.
+-- What a request opens, reads or writes, by the names in messages. An explanation or a test has lines of its own for its
+-- files, but for the texts whose records are explained.
 abbrev pub stream_names : ToolRequest → List (List ℕ)
 stream_names InputRequest = standard_input ∷ standard_output ∷ []
 stream_names (HelpRequest text) = standard_output ∷ []
@@ -39,6 +39,7 @@ stream_names (FilesRequest task g t) = shown_name g ∷ shown_name t ∷ standar
 stream_names (CoverRequest start memo steps needed g texts) =
     shown_name g ∷ map shown_name texts ++ standard_output ∷ []
 stream_names (ExplainRequest question printing) = standard_output ∷ []
+stream_names (ExplainRecordsRequest question) = record_streams question.texts ++ standard_output ∷ []
 stream_names (TestRequest question) = standard_output ∷ []
 stream_names (RecordsRequest task g texts end filter) = shown_name g ∷ record_streams texts ++ standard_output ∷ []
 
@@ -75,7 +76,8 @@ IsFaultAmong names failed.Memory = Unit {0}
 
 -- Which stream a fault of a device names if the output has not failed: a grammar file that is missing; the text if the
 -- grammar file is readable, and the grammar file if the text is. For records it is one of the texts, or the input, if
--- the grammar file is readable. An explanation or a test has no such fault.
+-- the grammar file is readable, or always for an explanation of records. Another explanation or a test has no such
+-- fault.
 abbrev pub NamesCause : ToolRequest → (file_at : List ℕ → NamedFile) → RequestFault → Type 0
 NamesCause InputRequest file_at it = IsFaultAt standard_input None it
 NamesCause (HelpRequest text) file_at it = Unit {0}
@@ -86,6 +88,7 @@ NamesCause (FilesRequest task g t) file_at it = (IsMissing (file_at g) → IsFau
 NamesCause (CoverRequest start memo steps needed g texts) file_at it =
     IsMissing (file_at g) → IsFaultAt (shown_name g) None it
 NamesCause (ExplainRequest question printing) file_at it = Unit {0}
+NamesCause (ExplainRecordsRequest question) file_at it = IsFaultAmong (record_streams question.texts) it
 NamesCause (TestRequest question) file_at it = Unit {0}
 NamesCause (RecordsRequest task g texts end filter) file_at it =
     (IsMissing (file_at g) → IsFaultAt (shown_name g) None it)

@@ -16,6 +16,9 @@ pub use Rattle.peg_explain_files.specs.Explained
 pub use Rattle.peg_explain_files.specs.Names
 pub use Rattle.peg_explain_files.specs.Printings
 pub use Rattle.peg_explain_files.specs.Questions
+pub use Rattle.peg_explain_records.specs.Questions as RecordQuestions
+pub use Rattle.peg_explain_records.specs.RecordMessages
+pub use Rattle.peg_explain_records.specs.RecordsExplained
 pub use Rattle.peg_io.specs.NamedFile
 pub use Rattle.peg_io.specs.Split
 pub use Rattle.peg_io.specs.Transfer
@@ -53,6 +56,7 @@ pub mod Exits
 pub mod Explanations
 pub mod Faults
 pub mod RecordFaults
+pub mod RecordResults
 pub mod RequestContract
 pub mod Requests
 pub mod TestOutcome

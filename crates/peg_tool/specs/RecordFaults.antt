@@ -4,7 +4,6 @@ use Rattle.std.specs.declared.io.ErrorKind.{ErrorKind}
 use Rattle.peg_io.specs.NamedFile.{NamedFile, is_readable}
 use Rattle.peg_record_files.specs.declared.fault.RecordsFault.{RecordsFault}
 use Rattle.peg_record_files.specs.declared.fault.RecordsFault.TheVariants as reading
-use Rattle.peg_record_files.specs.declared.outcome.RecordOutcome.{RecordOutcome}
 use Rattle.peg_tool.specs.Faults.{IsFaultAmong, IsFaultAt, plain_result, record_streams, standard_input, standard_output}
 use Rattle.peg_tool.specs.declared.fault.RequestFault.{RequestFault}
 use Rattle.peg_tool.specs.declared.fault.RequestFault.TheVariants as failed
@@ -19,15 +18,16 @@ IsFaultOfRecords reading.Input input output it = IsFaultAt standard_input input 
 IsFaultOfRecords reading.Output input output it = IsFaultAt standard_output output it
 IsFaultOfRecords reading.Memory input output it = it ≡ failed.Memory
 
-abbrev pub HasFaultOfRecords : Result RecordOutcome RecordsFault → (input output : Option ErrorKind)
-    → Result ℕ RequestFault → Type 0
-HasFaultOfRecords (Ok worst) input output result = Unit {0}
+abbrev pub HasFaultOfRecords : {T X : Type 0} → Result T RecordsFault → (input output : Option ErrorKind)
+    → Result X RequestFault → Type 0
+HasFaultOfRecords (Ok ended) input output result = Unit {0}
 HasFaultOfRecords (Err fault) input output result = IfErr result (IsFaultOfRecords fault input output)
 
 -- Which fault ends a request for the records of texts with these names after the grammar file is read. `input_kind`
 -- and `output_kind` are those of the errors of the input and the output.
-pub record EndsRecords (file_at : List ℕ → NamedFile) (texts : List (List ℕ)) (input_failed output_failed : Bool)
-    (input_kind output_kind : Option ErrorKind) (result : Result ℕ RequestFault) : Type 0 where
+pub record EndsRecords {X : Type 0} (file_at : List ℕ → NamedFile) (texts : List (List ℕ))
+    (input_failed output_failed : Bool) (input_kind output_kind : Option ErrorKind) (result : Result X RequestFault)
+    : Type 0 where
   -- with readable texts, a failed input or output is a file fault, and nothing else is
   pub device : All (λ text. is_readable (file_at text) ≡ true) texts
       → (IsErrOf (plain_result result) File ↔ ((input_failed ≡ true) ⊎ (output_failed ≡ true)))

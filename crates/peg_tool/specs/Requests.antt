@@ -5,11 +5,12 @@ use Rattle.peg_explain_files.specs.Names.{IsInput, name_end}
 use Rattle.peg_explain_files.specs.Printings.{printing_of}
 use Rattle.peg_explain_files.specs.Questions.{Question}
 use Rattle.peg_explain_files.specs.declared.printing.Printing.{Printing}
+use Rattle.peg_explain_records.specs.Questions.{RecordsQuestion}
 use Rattle.peg_coverage.specs.declared.text_match.RequiredMatch.{RequiredMatch}
 use Rattle.peg_coverage.specs.declared.text_match.RequiredMatch.TheVariants.{Whole, Prefix}
 use Rattle.peg_io.specs.NamedFile.{NamedFile, IsMissing, is_readable}
 use Rattle.peg_cli.specs.declared.words.Words.{Words}
-use Rattle.peg_cli.specs.declared.words.Words.TheVariants.{Joined, Help, Table, Check, Code, Lint, Profile, Coverage, Explain, Test, Parse, Records}
+use Rattle.peg_cli.specs.declared.words.Words.TheVariants.{Joined, Help, Table, Check, Code, Lint, Profile, Coverage, Explain, ExplainRecords, Test, Parse, Records}
 use Rattle.peg_lint.specs.FileWarnings.{selection_of}
 use Rattle.peg_json.specs.TreeForms.{form_from_options}
 use Rattle.peg_records.specs.declared.end.RecordEnd.{RecordEnd}
@@ -22,7 +23,7 @@ use Rattle.peg_replies.specs.Task.{ToolTask, TableTask, CheckTask, CodeTask, Lin
 
 -- A request: the default task on a grammar file and a text from one input, a help text, a task on the grammar file with
 -- a name, a task on a grammar file and a text with two names, what the texts with some names use of a grammar file, an
--- explanation of texts, a test of the texts in folders, or a task on a grammar file and each record of texts with some
+-- explanation of texts, an explanation of the records of texts, a test of the texts in folders, or a task on a grammar file and each record of texts with some
 -- names, or of the input without names.
 pub data ToolRequest : Type 0 where
   InputRequest : ToolRequest
@@ -32,6 +33,7 @@ pub data ToolRequest : Type 0 where
   CoverRequest : (start : Option (List ℕ)) → (memo : ℕ) → (steps : Option ℕ) → (needed : RequiredMatch) → (g : List ℕ)
       → (texts : List (List ℕ)) → ToolRequest
   ExplainRequest : (question : Question) → (printing : Printing) → ToolRequest
+  ExplainRecordsRequest : (question : RecordsQuestion) → ToolRequest
   TestRequest : (question : TestQuestion) → ToolRequest
   RecordsRequest : (task : ToolTask) → (g : List ℕ) → (texts : List (List ℕ)) → (end : RecordEnd)
       → (filter : RecordFilter) → ToolRequest
@@ -78,6 +80,16 @@ requested (Explain g texts files_from null start memo steps rules terminals quie
       steps = steps;
       style = style_of rules terminals;
     } (printing_of quiet)
+requested (ExplainRecords g texts null crlf start memo steps rules terminals quiet) = ExplainRecordsRequest record {
+  grammar = string_bytes g;
+  texts = map string_bytes texts.items;
+  end = end_of null crlf;
+  start = option_map string_bytes start;
+  memo = memo;
+  steps = steps;
+  style = style_of rules terminals;
+  printing = printing_of quiet;
+}
 requested (Test g folders start memo steps) = TestRequest record {
   grammar = string_bytes g;
   folders = map string_bytes folders.items;
@@ -97,7 +109,7 @@ requested (Records g texts null crlf failed matched start memo steps all rows no
 
 -- ---- files of a request
 
--- The grammar file that a request names can't be opened. An explanation or a test reports that itself.
+-- The grammar file that a request names can't be opened. An explanation or a test reports this itself.
 abbrev pub LacksGrammar : ToolRequest → (file_at : List ℕ → NamedFile) → Type 0
 LacksGrammar InputRequest file_at = ⊥
 LacksGrammar (HelpRequest text) file_at = ⊥
@@ -105,6 +117,7 @@ LacksGrammar (FileRequest task g) file_at = IsMissing (file_at g)
 LacksGrammar (FilesRequest task g t) file_at = IsMissing (file_at g)
 LacksGrammar (CoverRequest start memo steps needed g texts) file_at = IsMissing (file_at g)
 LacksGrammar (ExplainRequest question printing) file_at = ⊥
+LacksGrammar (ExplainRecordsRequest question) file_at = ⊥
 LacksGrammar (TestRequest question) file_at = ⊥
 LacksGrammar (RecordsRequest task g texts end filter) file_at = IsMissing (file_at g)
 
@@ -117,10 +130,12 @@ LacksText (FileRequest task g) file_at = ⊥
 LacksText (FilesRequest task g t) file_at = IsMissing (file_at t)
 LacksText (CoverRequest start memo steps needed g texts) file_at = ⊥
 LacksText (ExplainRequest question printing) file_at = ⊥
+LacksText (ExplainRecordsRequest question) file_at = ⊥
 LacksText (TestRequest question) file_at = ⊥
 LacksText (RecordsRequest task g texts end filter) file_at = ⊥
 
--- the files that a request names hold specified bytes, and reads of them don't fail
+-- The files that a request names hold specified bytes, and reads of them don't fail. An explanation of records reports a
+-- grammar file itself.
 abbrev pub HasReadableFiles : ToolRequest → (file_at : List ℕ → NamedFile) → Type 0
 HasReadableFiles InputRequest file_at = Unit {0}
 HasReadableFiles (HelpRequest text) file_at = Unit {0}
@@ -129,13 +144,15 @@ HasReadableFiles (FilesRequest task g t) file_at = (is_readable (file_at g) ≡ 
 HasReadableFiles (CoverRequest start memo steps needed g texts) file_at =
     (is_readable (file_at g) ≡ true) × All (λ text. is_readable (file_at text) ≡ true) texts
 HasReadableFiles (ExplainRequest question printing) file_at = ⊥
+HasReadableFiles (ExplainRecordsRequest question) file_at =
+    All (λ text. is_readable (file_at text) ≡ true) question.texts
 HasReadableFiles (TestRequest question) file_at = ⊥
 HasReadableFiles (RecordsRequest task g texts end filter) file_at =
     (is_readable (file_at g) ≡ true) × All (λ text. is_readable (file_at text) ≡ true) texts
 
 -- ---- explanations and tests
 
--- whether an explanation is requested, which reports files that can't be opened or read itself
+-- whether an explanation of whole texts is requested, which reports files that can't be opened or read itself
 abbrev pub IsExplainRequest : ToolRequest → Type 0
 IsExplainRequest InputRequest = ⊥
 IsExplainRequest (HelpRequest text) = ⊥
@@ -143,6 +160,7 @@ IsExplainRequest (FileRequest task g) = ⊥
 IsExplainRequest (FilesRequest task g t) = ⊥
 IsExplainRequest (CoverRequest start memo steps needed g texts) = ⊥
 IsExplainRequest (ExplainRequest question printing) = Unit {0}
+IsExplainRequest (ExplainRecordsRequest question) = ⊥
 IsExplainRequest (TestRequest question) = ⊥
 IsExplainRequest (RecordsRequest task g texts end filter) = ⊥
 
@@ -154,6 +172,7 @@ IsTestRequest (FileRequest task g) = ⊥
 IsTestRequest (FilesRequest task g t) = ⊥
 IsTestRequest (CoverRequest start memo steps needed g texts) = ⊥
 IsTestRequest (ExplainRequest question printing) = ⊥
+IsTestRequest (ExplainRecordsRequest question) = ⊥
 IsTestRequest (TestRequest question) = Unit {0}
 IsTestRequest (RecordsRequest task g texts end filter) = ⊥
 
@@ -167,17 +186,20 @@ ReadsInput (FileRequest task g) = ⊥
 ReadsInput (FilesRequest task g t) = ⊥
 ReadsInput (CoverRequest start memo steps needed g texts) = ⊥
 ReadsInput (ExplainRequest question printing) = IsInput question.list
+ReadsInput (ExplainRecordsRequest question) = question.texts ≡ []
 ReadsInput (TestRequest question) = ⊥
 ReadsInput (RecordsRequest task g texts end filter) = texts ≡ []
 
 -- whether a failed read of the input ends a request; an explanation reports it itself
 abbrev pub EndsWithInput : ToolRequest → Type 0
 EndsWithInput InputRequest = Unit {0}
+EndsWithInput (ExplainRecordsRequest question) = Unit {0}
 EndsWithInput (RecordsRequest task g texts end filter) = Unit {0}
 EndsWithInput other = ⊥
 
 -- whether a request writes before it has read all texts: messages of texts, or lines of records
 abbrev pub WritesEarly : ToolRequest → Type 0
 WritesEarly (ExplainRequest question printing) = Unit {0}
+WritesEarly (ExplainRecordsRequest question) = Unit {0}
 WritesEarly (RecordsRequest task g texts end filter) = Unit {0}
 WritesEarly other = ⊥

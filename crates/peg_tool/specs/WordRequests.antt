@@ -3,10 +3,11 @@ use Rattle.std.specs.Prelude.{map, string_bytes}
 use Rattle.peg_cli.specs.declared.words.Words.{Words}
 use Rattle.peg_cli.specs.declared.words.Words.TheVariants as words
 use Rattle.peg_explain_files.specs.Questions.{question_of}
+use Rattle.peg_explain_records.specs.Questions as of_records
 use Rattle.peg_parser.specs.Parser.{start_named}
 use Rattle.peg_replies.specs.Commands.{parse_task, task_of}
 use Rattle.peg_test_files.specs.TestQuestions as asked
-use Rattle.peg_tool.specs.Requests.{ToolRequest, InputRequest, HelpRequest, FileRequest, FilesRequest, CoverRequest, ExplainRequest, TestRequest, RecordsRequest}
+use Rattle.peg_tool.specs.Requests.{ToolRequest, InputRequest, HelpRequest, FileRequest, FilesRequest, CoverRequest, ExplainRequest, ExplainRecordsRequest, TestRequest, RecordsRequest}
 use Rattle.peg_tool.specs.declared.request.Request.{Request}
 use Rattle.peg_tool.specs.declared.request.Request.TheVariants as request
 
@@ -19,6 +20,7 @@ request_of (request.OnFiles g t command) = FilesRequest (task_of command) g.now 
 request_of (request.Cover g texts options needed) =
     CoverRequest (start_named options) options.memo options.steps needed g.now (map string_bytes texts.now)
 request_of (request.Explain query printing) = ExplainRequest (question_of query) printing
+request_of (request.ExplainRecords query) = ExplainRecordsRequest (of_records.question_of query)
 request_of (request.Test query) = TestRequest (asked.question_of query)
 request_of (request.Records g parse) = RecordsRequest (parse_task parse.options parse.printing) g.now
     (map string_bytes parse.query.texts.now) parse.query.end parse.query.filter
@@ -33,3 +35,8 @@ abbrev pub IsRecordsWords : Words → Type 0
 IsRecordsWords (words.Records g texts null crlf failed matched start memo steps all rows no_tree show hide text) =
     Unit {0}
 IsRecordsWords other = ⊥
+
+-- the arguments are those of an explanation of records
+abbrev pub IsExplainRecordsWords : Words → Type 0
+IsExplainRecordsWords (words.ExplainRecords g texts null crlf start memo steps rules terminals quiet) = Unit {0}
+IsExplainRecordsWords other = ⊥

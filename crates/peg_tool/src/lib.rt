@@ -6,6 +6,7 @@ mod exit;
 mod explaining;
 mod fault;
 mod program;
+mod record_messages;
 mod records;
 mod report;
 mod request;
@@ -15,6 +16,7 @@ mod write;
 pub use exit::{Exit, read_args, run_program};
 pub use peg_cli::{Words, WordsFault, read_words};
 pub use peg_explain_files::{ItemStyle, NameEnd, Printing, Query};
+pub use peg_explain_records::ExplainRecordsQuery;
 pub use peg_io::{Device, DeviceFault, FileSystem, OpenFault, Opener, Sink, Source, split};
 pub use peg_json::{
     Fault, Status, answer_json, code_json, lint_json, profile_json, refusal_json, table_json,

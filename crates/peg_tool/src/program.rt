@@ -19,6 +19,7 @@ ghost use Rattle.peg_replies.specs.Task.{HasText};
 use crate::covering::{coverage_reply, write_coverage};
 use crate::explaining::explain;
 use crate::fault::{RequestFault, Stream};
+use crate::record_messages::explain_each_record;
 use crate::records::on_records;
 use crate::report::{Findings, Report};
 use crate::request::Request;
@@ -154,6 +155,9 @@ pub(crate) fn run_request<'a, O: Opener, I: Source, W: Sink>(
         } => { Ok(Report::Found(on_texts(alloc, files, output, g, texts, &options, needed)?)) }
         Request::Explain { query, printing } => {
             Ok(Report::Found(explain(alloc, files, input, output, &query, printing)?))
+        }
+        Request::ExplainRecords { query } => {
+            Ok(Report::Found(explain_each_record(alloc, files, input, output, &query)?))
         }
         Request::Test { query } => Ok(Report::Found(test(alloc, files, output, &query)?)),
         Request::Records { g, parse } => {

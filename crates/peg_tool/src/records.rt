@@ -9,9 +9,10 @@ ghost use Rattle.peg_replies.specs.Commands.{parse_task};
 ghost use Rattle.peg_replies.specs.RecordParsers.{IsPreparedFor, IsRecordParserOf};
 ghost use Rattle.peg_replies.specs.RecordReplies.{outcome_status};
 ghost use Rattle.peg_replies.specs.declared.tree_printing.TreePrinting.{TreePrinting};
-ghost use Rattle.peg_tool.specs.CommandOutcome.{RecordsOutcome, records_result};
+ghost use Rattle.peg_tool.specs.CommandOutcome.{RecordsOutcome};
 ghost use Rattle.peg_tool.specs.Faults.{IsFaultAmong, IsFaultAt, plain_result, record_streams, standard_input, standard_output};
 ghost use Rattle.peg_tool.specs.RecordFaults.{EndsRecords, HasFaultOfRecords};
+ghost use Rattle.peg_tool.specs.RecordResults.{records_result};
 
 use crate::fault::{RequestFault, Stream};
 use crate::program::ProgramFault;
@@ -135,7 +136,7 @@ fn status_or_fault<'a>(
     input: Option<ErrorKind>,
     output: Option<ErrorKind>,
 ) -> Result<u8, RequestFault<'a>>
-    ensures plain { plain_result result ≡ records_result ended.entry }
+    ensures plain { plain_result result ≡ records_result outcome_status ended.entry }
     ensures fault { HasFaultOfRecords ended.entry input output result }
 {
     match ended {

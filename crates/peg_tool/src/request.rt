@@ -6,12 +6,13 @@ ghost use Rattle.peg_parser.specs.Parser.{start_named};
 ghost use Rattle.peg_replies.specs.Commands.{task_of};
 ghost use Rattle.peg_tool.specs.Requests.{CoverRequest, FileRequest, IsExplainRequest, TestRequest, end_of, filter_of, needed_of, requested};
 ghost use Rattle.peg_replies.specs.Task.{LintTask};
-ghost use Rattle.peg_tool.specs.WordRequests.{IsParseWords, IsRecordsWords, request_of};
+ghost use Rattle.peg_tool.specs.WordRequests.{IsExplainRecordsWords, IsParseWords, IsRecordsWords, request_of};
 
 use crate::records::RecordsParse;
 use peg_cli::Words;
 use peg_coverage::RequiredMatch;
 use peg_explain_files::{ItemStyle, NameEnd, Printing, Query};
+use peg_explain_records::ExplainRecordsQuery;
 use peg_json::TreeForm;
 use peg_lint::Selection;
 use peg_parser::ParseOptions;
@@ -50,6 +51,10 @@ pub enum Request<'a> {
     Explain {
         query: Query<'a>,
         printing: Printing,
+    },
+    /// Explains where the records of texts don't match a grammar file.
+    ExplainRecords {
+        query: ExplainRecordsQuery<'a>,
     },
     /// Tests the texts in folders by a grammar file.
     Test {
@@ -99,6 +104,7 @@ impl<'a> Request<'a> {
                 request_coverage(g, texts, options, *prefix)
             }
             Words::Explain { .. } => request_explanation(words),
+            Words::ExplainRecords { .. } => request_explained_records(words),
             Words::Test {
                 g,
                 folders,
@@ -192,6 +198,38 @@ fn request_explanation(words: &Words) -> Request<'_>
     };
     let printing = Printing::from_quiet(*quiet);
     Request::Explain { query, printing }
+}
+
+// Requests an explanation of records.
+fn request_explained_records(words: &Words) -> Request<'_>
+    requires { IsExplainRecordsWords words.now }
+    ensures { request_of result ≡ requested words.now }
+{
+    let Words::ExplainRecords {
+        g,
+        texts,
+        null,
+        crlf,
+        start,
+        memo,
+        steps,
+        rules,
+        terminals,
+        quiet,
+    } = words
+    else {
+        unreachable!()
+    };
+    let (start, memo, steps) = (start.as_deref(), *memo, *steps);
+    let query = ExplainRecordsQuery {
+        grammar: g,
+        texts,
+        end: record_end(*null, *crlf),
+        options: ParseOptions { start, memo, steps },
+        style: ItemStyle::from_flags(*rules, *terminals),
+        printing: Printing::from_quiet(*quiet),
+    };
+    Request::ExplainRecords { query }
 }
 
 // Requests a test of the texts in these folders.

@@ -2,7 +2,8 @@ use Rattle.std.proofs.Common.{◌≡◌, ℕ, List, [], ap, arith, map, string_b
 use Rattle.std.proofs.lemmas.Grind.{common_steps}
 use Rattle.peg_records.specs.Records.{records}
 use Rattle.peg_record_files.specs.Runs.{LeadsTo}
-use Rattle.peg_record_files.proofs.StreamLemmas.{input-stream, known}
+use Rattle.peg_record_files.proofs.FileLemmas.{input-stream}
+use Rattle.peg_record_files.proofs.RunLemmas.{known}
 use Rattle.peg_record_files.proofs.files.write_all.Goals as goal
 
 pub returns-then-is_empty-clause-leads : goal.returns-then-is_empty-clause-leads
@@ -16,7 +17,7 @@ returns-then-is_empty-clause-leads g c streams are =
     let none : c.args.query.now.texts.now ≡ [] = grind (arith, common_steps) in
     let one = input-stream run.reader.end (g.O.Opener.file_at c.args.files.now) input
     (map string_bytes c.args.query.now.texts.now) streams (ap (map string_bytes) none) are in
-    let leads = known input one.0 (λ (stream : List ℕ). LeadsTo IsReply filter (records run.reader.end stream) run
+    let leads = known input one.0 (λ (stream : List ℕ). LeadsTo IsReply filter run.reader.end (records run.reader.end stream) run
     c.write_input.new.run old new c.write_input.result) one.1 c.write_input.ensures.leads in
-    subst (λ (l : List (List ℕ)). LeadsTo IsReply filter l run c.write_input.new.run old new c.write_input.result)
+    subst (λ (l : List (List ℕ)). LeadsTo IsReply filter run.reader.end l run c.write_input.new.run old new c.write_input.result)
     (sym one.2) leads

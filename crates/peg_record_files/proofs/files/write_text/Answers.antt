@@ -1,7 +1,6 @@
 use Rattle.peg_records.specs.Records.{records}
-use Rattle.peg_record_files.proofs.FileLemmas.{fault-of-open}
+use Rattle.peg_record_files.proofs.FileLemmas.{any-known, fault-of-open, opened-known}
 use Rattle.peg_record_files.proofs.ReplyLemmas.{part-none}
-use Rattle.peg_record_files.proofs.StreamLemmas.{any-known, opened-known}
 use Rattle.peg_record_files.proofs.files.write_text.Goals as goal
 
 pub returns-in-Ok-clause-leads : goal.returns-in-Ok-clause-leads
@@ -16,4 +15,4 @@ returns-in-Ok-clause-text g c =
 pub returns-in-Err-Memory-clause-leads : goal.returns-in-Err-Memory-clause-leads
 returns-in-Err-Memory-clause-leads g c =
     any-known _ _ (λ stream. part-none (g.P.RecordPrinter.replies c.args.printer.now) c.args.filter
-    c.args.run.now.lines.number (records c.args.run.now.reader.end stream) (g.W.Sink.written c.args.output.now))
+    c.args.run.now.reader.end c.args.run.now.lines.place (records c.args.run.now.reader.end stream) (g.W.Sink.written c.args.output.now))

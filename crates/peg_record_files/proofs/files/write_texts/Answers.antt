@@ -5,8 +5,7 @@ use Rattle.std.specs.List.{flat_map}
 use Rattle.peg_io.specs.NamedFile.{bytes_of}
 use Rattle.peg_records.specs.Records.{records}
 use Rattle.peg_record_files.specs.Runs.{AddsPart, AddsReplies}
-use Rattle.peg_record_files.proofs.FileLemmas.{leads-error, texts-added, texts-none, texts-part}
-use Rattle.peg_record_files.proofs.StreamLemmas.{names-around, names-more}
+use Rattle.peg_record_files.proofs.FileLemmas.{leads-error, names-around, names-more, texts-added, texts-none, texts-part}
 use Rattle.peg_record_files.proofs.files.write_texts.Goals as goal
 
 pub names-init : goal.names-init
@@ -37,7 +36,7 @@ names-preserved g c = record {
       let mid = g.W.Sink.written c.names.output in
       let new = g.W.Sink.written c.write_text.new.output in
       let more = subst (λ e. IfSome (f name) (λ stream.
-      AddsReplies IsReply filter (records e stream) c.names.run.lines c.write_text.new.run.lines mid new))
+      AddsReplies IsReply filter e (records e stream) c.names.run.lines c.write_text.new.run.lines mid new))
       (ap (λ s. s.0) c.names.invariant.settings) c.in_ok-write_text.ensures.leads in
       texts-added IsReply filter c.args.run.now.reader.end f (map string_bytes (take i texts)) name c.args.run.now.lines
       c.names.run.lines c.write_text.new.run.lines old mid new c.names.invariant.adds more streams
@@ -56,9 +55,9 @@ returns-in_err-write_text-clause-leads g c streams are =
     let old = g.W.Sink.written c.args.output.now in
     let mid = g.W.Sink.written c.names.output in
     let new = g.W.Sink.written c.write_text.new.output in
-    let more = subst (λ e. IfSome (f name) (λ stream. AddsPart IsReply filter c.names.run.lines.number (records e stream) mid new))
+    let more = subst (λ e. IfSome (f name) (λ stream. AddsPart IsReply filter e c.names.run.lines.place (records e stream) mid new))
     (ap (λ s. s.0) c.names.invariant.settings) c.in_err-write_text.ensures.leads in
-    leads-error IsReply filter (flat_map (records end) streams) c.args.run.now c.write_text.new.run old new c.in_err-write_text.field-0.0
+    leads-error IsReply filter end (flat_map (records end) streams) c.args.run.now c.write_text.new.run old new c.in_err-write_text.field-0.0
     c.from_residual.result c.from_residual.ensures.1
     (texts-part IsReply filter end f (map string_bytes (take i texts)) (map string_bytes (drop (i + 1) texts)) name
     c.args.run.now.lines c.names.run.lines old mid new c.names.invariant.adds more streams

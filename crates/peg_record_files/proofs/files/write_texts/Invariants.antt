@@ -15,6 +15,6 @@ invariant-names g l = record {
   adds : (streams : List (List ℕ))
       → map (λ (name : List ℕ). bytes_of (g.O.Opener.file_at l.files name)) (map string_bytes (take l.name-index l.texts))
       ≡ map Some streams → AddsReplies (g.P.RecordPrinter.replies l.printer) l.query.filter
-      (flat_map (records l.initial.run.reader.end) streams) l.initial.run.lines l.run.lines
+      l.initial.run.reader.end (flat_map (records l.initial.run.reader.end) streams) l.initial.run.lines l.run.lines
       (g.W.Sink.written l.initial.output) (g.W.Sink.written l.output);
 }

@@ -7,7 +7,7 @@ use Rattle.peg_tool.specs.RequestContract.{EndsAs}
 use Rattle.peg_tool.specs.Requests.{ToolRequest}
 use Rattle.peg_tool.specs.declared.report.Report.TheVariants as report
 use Rattle.peg_tool.proofs.CoverageLemmas.{at-among, first-among}
-use Rattle.peg_tool.proofs.RecordsLemmas.{passed-fault, request-end}
+use Rattle.peg_tool.proofs.RecordsLemmas.{explained-end, passed-fault, request-end}
 use Rattle.peg_tool.proofs.ReportLemmas.{done-fault, done-status, found-fault, found-findings, passed-among}
 use Rattle.peg_tool.proofs.program.run_request.Goals as goal
 
@@ -102,6 +102,55 @@ returns-in_err-explain-in-Explain-clause-named g c =
     (passed-among (standard_output ∷ []) _ passed.result
     (at-among _ (standard_output ∷ []) standard_output _ c.in_err-explain-in-Explain.ensures.named
     (first-among standard_output [])) passed.ensures.1)
+
+pub returns-in_err-explain_each_record-in-ExplainRecords-clause-leads :
+    goal.returns-in_err-explain_each_record-in-ExplainRecords-clause-leads
+returns-in_err-explain_each_record-in-ExplainRecords-clause-leads g c =
+    let passed = c.from_residual-in_err-explain_each_record-in-ExplainRecords in
+    subst (λ (r : ToolRequest). RequestOutcome r (g.O.Opener.file_at c.args.files.now) (g.I.Source.left c.args.input.now)
+    (g.W.Sink.written c.args.output.now) (g.W.Sink.written c.explain_each_record.new.output) (plain_result passed.result))
+    c.in-ExplainRecords.ensures (
+      plain_result c.explain_each_record.result,
+      c.explain_each_record.ensures.leads,
+      found-fault c.explain_each_record.result _ passed.result c.in_err-explain_each_record-in-ExplainRecords.was
+          passed.ensures.1,
+    )
+
+pub returns-in_ok-explain_each_record-in-ExplainRecords-clause-leads :
+    goal.returns-in_ok-explain_each_record-in-ExplainRecords-clause-leads
+returns-in_ok-explain_each_record-in-ExplainRecords-clause-leads g c =
+    let it = report.Found c.in_ok-explain_each_record-in-ExplainRecords.field-0 in
+    subst (λ (r : ToolRequest). RequestOutcome r (g.O.Opener.file_at c.args.files.now) (g.I.Source.left c.args.input.now)
+    (g.W.Sink.written c.args.output.now) (g.W.Sink.written c.explain_each_record.new.output) (Ok it))
+    c.in-ExplainRecords.ensures (
+      plain_result c.explain_each_record.result,
+      c.explain_each_record.ensures.leads,
+      found-findings c.explain_each_record.result _ c.in_ok-explain_each_record-in-ExplainRecords.was,
+    )
+
+pub returns-in_err-explain_each_record-in-ExplainRecords-clause-ends :
+    goal.returns-in_err-explain_each_record-in-ExplainRecords-clause-ends
+returns-in_err-explain_each_record-in-ExplainRecords-clause-ends g c =
+    let passed = c.from_residual-in_err-explain_each_record-in-ExplainRecords in
+    let ended = c.explain_each_record in
+    let holds = ended.ensures in
+    let fault = result_err (plain_result passed.result) in
+    subst (λ (r : ToolRequest). EndsAs r (g.O.Opener.file_at c.args.files.now) fault
+    (g.I.Source.failed ended.new.input) (g.W.Sink.failed ended.new.output) (ended.new.input ≡ c.args.input.now)
+    (ended.new.output ≡ c.args.output.now) (g.W.Sink.written c.args.output.now) (g.W.Sink.written ended.new.output))
+    c.in-ExplainRecords.ensures
+    (explained-end _ _ _ _ _ _ _ _ ended.result fault
+    (passed-fault ended.result _ passed.result c.in_err-explain_each_record-in-ExplainRecords.was passed.ensures.1)
+    holds.unread holds.device_fault holds.read_fault holds.write_fault)
+
+pub returns-in_err-explain_each_record-in-ExplainRecords-clause-named :
+    goal.returns-in_err-explain_each_record-in-ExplainRecords-clause-named
+returns-in_err-explain_each_record-in-ExplainRecords-clause-named g c =
+    let passed = c.from_residual-in_err-explain_each_record-in-ExplainRecords in
+    let streams = record_streams (map string_bytes c.in-ExplainRecords.query.texts.now) in
+    subst (λ (r : ToolRequest). IfErr passed.result (IsFaultAmong (stream_names r))) c.in-ExplainRecords.ensures
+    (passed-among (streams ++ standard_output ∷ []) _ passed.result
+    c.in_err-explain_each_record-in-ExplainRecords.ensures.named passed.ensures.1)
 
 pub returns-in_err-test-in-Test-clause-leads : goal.returns-in_err-test-in-Test-clause-leads
 returns-in_err-test-in-Test-clause-leads g c =

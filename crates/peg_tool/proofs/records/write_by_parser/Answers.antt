@@ -1,5 +1,6 @@
 use Rattle.std.proofs.Common.{◌∙◌, Option, ap, inr, map, string_bytes, subst}
 use Rattle.std.specs.declared.io.ErrorKind.{ErrorKind}
+use Rattle.peg_replies.specs.RecordReplies.{outcome_status}
 use Rattle.peg_tool.specs.RecordFaults.{HasFaultOfRecords}
 use Rattle.peg_tool.proofs.RecordsLemmas.{has-parse, records-by, records-end}
 use Rattle.peg_tool.proofs.records.write_by_parser.Goals as goal
@@ -11,7 +12,7 @@ returns-clause-leads g c file of =
       has-parse file c.args.parser.now of,
       λ streams are. (
         ended.result,
-        records-by file c.args.parser.now _ _ _ _ ended.result of (ended.ensures.lines streams are),
+        records-by file c.args.parser.now _ _ _ _ _ ended.result of (ended.ensures.lines streams are),
         c.status_or_fault.ensures.plain,
       ),
     )
@@ -26,7 +27,7 @@ returns-clause-ends g c =
     c.fault_kind.ensures.kind c.status_or_fault.ensures.fault in
     let has = subst (λ (kind : Option ErrorKind). HasFaultOfRecords ended.result input kind result)
     c.fault_kind-2.ensures.kind half in
-    records-end (g.O.Opener.file_at c.args.files.now) (map string_bytes c.args.query.now.texts.now)
+    records-end outcome_status (g.O.Opener.file_at c.args.files.now) (map string_bytes c.args.query.now.texts.now)
     (g.I.Source.failed ended.new.input) (g.W.Sink.failed ended.new.output) input output ended.result result
     c.status_or_fault.ensures.plain has ended.ensures.text ended.ensures.input ended.ensures.output
     (λ some. ap g.I.Source.failed (ended.ensures.unread (λ same. some (ap (map string_bytes) same)))

@@ -8,7 +8,7 @@ abbrev pub invariant-records : goal.invariant-records
 invariant-records g l = record {
   settings : run_settings l.self ≡ run_settings l.initial.self;
   first : (left : List ℕ) (ahead : List (List ℕ)) → IsAheadOf l.initial.self.reader left ahead
-      → AddsFirst (g.P.RecordPrinter.replies l.printer) l.filter left ahead l.initial.self l.self
+      → AddsFirst (g.P.RecordPrinter.replies l.printer) l.filter l.initial.self.reader.end left ahead l.initial.self l.self
       (Some l.initial.self.lines.lines.items) (Some l.self.lines.lines.items);
 }
 

@@ -14,6 +14,6 @@ invariant-blocks-2 g l = record {
   nothing : rest_of l.self.reader ≡ [];
   none : l.self.lines.lines.items ≡ [];
   first : IfSome (g.S.Source.left l.initial.input) (λ stream. (left : List ℕ) × (g.S.Source.left l.input ≡ Some left)
-      × AddsFirst (g.P.RecordPrinter.replies l.printer) l.filter left (records l.initial.self.reader.end stream)
+      × AddsFirst (g.P.RecordPrinter.replies l.printer) l.filter l.initial.self.reader.end left (records l.initial.self.reader.end stream)
       l.initial.self l.self (g.W.Sink.written l.initial.output) (g.W.Sink.written l.output));
 }

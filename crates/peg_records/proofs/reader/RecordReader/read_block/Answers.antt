@@ -26,6 +26,6 @@ returns-clause-ahead g c =
     let within : kept.searched ≤ length kept.held.items = grind (arith, common_steps) in
     after-read (g.S.Source.left c.args.input.now) (g.S.Source.left c.read.new.self) (take count piece)
     (IsAheadOf c.args.self.now) _ c.in-Ok.ensures.bytes.0 (λ later ahead before.
-    reader-read kept.end kept.limit kept.held.items c.extend_from_slice.new.self.items (take count piece) kept.start
-    kept.searched (take count piece ++ later) later ahead kept.in_order within c.keep_start.ensures.nothing held refl
-    (c.keep_start.ensures.ahead (take count piece ++ later) ahead before))
+    reader-read kept.end kept.limit kept.lost kept.held.items c.extend_from_slice.new.self.items (take count piece) kept.start
+    kept.searched (take count piece ++ later) later ahead kept.in_order within c.in_ok-keep_start.ensures.nothing held refl
+    (c.in_ok-keep_start.ensures.ahead (take count piece ++ later) ahead before))

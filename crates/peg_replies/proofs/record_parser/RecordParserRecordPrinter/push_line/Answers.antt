@@ -12,8 +12,8 @@ returns c text is_given =
     let printing = parser.printing in
     let options = parser.options in
     let line = c.in_ok-line.line in (
-      record_line c.args.number (line_bytes line),
-      λ file of. record-reply file c.args.given.now text (line_bytes line) c.args.number (status_code line.status)
+      record_line c.args.place.number (line_bytes line),
+      λ file of. record-reply file c.args.given.now text (line_bytes line) c.args.place (status_code line.status)
           (parser_rules parser.parser) (start_named options) options.memo options.steps printing.all printing.form
           (nodes_asked printing.nodes) printing.with_bytes c.outcome_of-outcome.result of.accepts of.known of.start
           is_given c.outcome_of-outcome.ensures (c.in_ok-line.ensures file of),

@@ -1,0 +1,13 @@
+pub use Rattle.peg_explain_files.specs.Entries
+pub use Rattle.peg_explain_files.specs.Explained
+pub use Rattle.peg_explain_files.specs.Printings
+pub use Rattle.peg_explain_files.specs.TextReports
+pub use Rattle.peg_io.specs.NamedFile
+pub use Rattle.peg_record_files.specs.Faults
+pub use Rattle.peg_record_files.specs.RecordReplies
+pub use Rattle.peg_record_files.specs.Streams
+pub use Rattle.peg_records.specs.Records
+pub mod Questions
+pub mod RecordExplainers
+pub mod RecordMessages
+pub mod RecordsExplained
