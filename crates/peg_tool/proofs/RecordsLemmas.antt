@@ -114,7 +114,7 @@ records-refused task file line old new (Err Memory) refuses writes = absurd writ
 -- ---- the names of streams
 
 -- a text that is read is among the streams of records
-stream-among : (names : List (List ℕ)) (name : List ℕ) → Contains names name
+pub stream-among : (names : List (List ℕ)) (name : List ℕ) → Contains names name
     → Contains (record_streams names) (shown_name name)
 stream-among [] name has = absurd (omega (arith, has.1))
 stream-among (first ∷ rest) name has = (
@@ -130,15 +130,15 @@ all-among (failed.Device at kind) first last names has =
     Contains-append_left (first ∷ names) (last ∷ []) _ (Contains-append_right (first ∷ []) names _ has)
 all-among failed.Memory first last names has = tt
 
-pub records-among : (first : List ℕ) (names : List (List ℕ)) (output_failed : Bool) (output : Option ErrorKind)
-    (result : Result ℕ RequestFault) → (output_failed ≡ false → IfErr result (IsFaultAmong names))
+pub records-among : {X : Type 0} (first : List ℕ) (names : List (List ℕ)) (output_failed : Bool)
+    (output : Option ErrorKind) (result : Result X RequestFault) → (output_failed ≡ false → IfErr result (IsFaultAmong names))
     → (output_failed ≡ true → IfErr result (IsFaultAt standard_output output))
     → IfErr result (IsFaultAmong (first ∷ names ++ standard_output ∷ []))
 records-among first names output_failed output (Ok status) cause written = tt
 records-among first names false output (Err fault) cause written =
     all-among fault first standard_output names (cause refl)
-records-among first names true output (Err fault) cause written =
-    ended-among {X = ℕ} (Err fault) (first ∷ names ++ standard_output ∷ []) output (written refl)
+records-among {X} first names true output (Err fault) cause written =
+    ended-among {X = X} (Err fault) (first ∷ names ++ standard_output ∷ []) output (written refl)
     (last-among first standard_output names)
 
 -- ---- faults
@@ -176,7 +176,7 @@ fault-cause file_at names input output (Err reading.Memory) (Err fault) plain ha
     subst (IsFaultAmong (record_streams names)) (sym has) tt
 
 -- only without texts is the input read
-reads-alone : (names : List (List ℕ)) (input_failed : Bool) → (names ≢ [] → input_failed ≡ false) → input_failed ≡ true
+pub reads-alone : (names : List (List ℕ)) (input_failed : Bool) → (names ≢ [] → input_failed ≡ false) → input_failed ≡ true
     → names ≡ []
 reads-alone [] input_failed unread failed = refl
 reads-alone (name ∷ names) input_failed unread failed =
@@ -211,15 +211,15 @@ records-end file_at names input_failed output_failed input output ended result p
     }
 
 -- without a failed output a refusal ends without a fault of a device
-works-fault : (names : List (List ℕ)) (result : Result ℕ RequestFault) → ¬ IsErrOf (plain_result result) File
-    → IfErr result (IsFaultAmong names)
+works-fault : {X : Type 0} (names : List (List ℕ)) (result : Result X RequestFault)
+    → ¬ IsErrOf (plain_result result) File → IfErr result (IsFaultAmong names)
 works-fault names (Ok status) works = tt
 works-fault names (Err failed.Memory) works = tt
 works-fault names (Err (failed.Device at kind)) works = absurd (works refl)
 
 -- which fault ends a request whose records aren't read
-pub refusal-end : (file_at : List ℕ → NamedFile) (names : List (List ℕ)) (input_failed output_failed : Bool)
-    (input output : Option ErrorKind) (result : Result ℕ RequestFault) → input_failed ≡ false
+pub refusal-end : {X : Type 0} (file_at : List ℕ → NamedFile) (names : List (List ℕ)) (input_failed output_failed : Bool)
+    (input output : Option ErrorKind) (result : Result X RequestFault) → input_failed ≡ false
     → (IsErrOf (plain_result result) File ↔ (output_failed ≡ true)) → IfErr result (IsFaultAt standard_output output)
     → EndsRecords file_at names input_failed output_failed input output result
 refusal-end file_at names input_failed output_failed input output result works fault named =
@@ -240,14 +240,14 @@ refusal-end file_at names input_failed output_failed input output result works f
 -- ---- requests
 
 -- a fault that is passed on is the fault of the result
-pub passed-fault : (ended : Result ℕ RequestFault) (fault : RequestFault) (result : Result Report RequestFault)
+pub passed-fault : {X : Type 0} (ended : Result X RequestFault) (fault : RequestFault) (result : Result Report RequestFault)
     → ended ≡ Err fault → IsErrAnd result (λ stated. stated ≡ fault)
     → result_err (plain_result result) ≡ result_err (plain_result ended)
 passed-fault ended fault (Ok it) was is = absurd is
 passed-fault ended fault (Err stated) was is =
     ap (λ f. Some (plain_fault f)) is ∙ sym (ap (λ r. result_err (plain_result r)) was)
 
-file-error : (result : Result ℕ ProgramFault) → result_err result ≡ Some File → result ≡ Err File
+pub file-error : (result : Result ℕ ProgramFault) → result_err result ≡ Some File → result ≡ Err File
 file-error (Ok status) is = absurd (let bad : None ≡ Some File = is in cc)
 file-error (Err fault) is = let same : fault ≡ File = cc in ap Err same
 

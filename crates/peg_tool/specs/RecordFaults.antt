@@ -26,8 +26,9 @@ HasFaultOfRecords (Err fault) input output result = IfErr result (IsFaultOfRecor
 
 -- Which fault ends a request for the records of texts with these names after the grammar file is read. `input_kind`
 -- and `output_kind` are those of the errors of the input and the output.
-pub record EndsRecords (file_at : List ℕ → NamedFile) (texts : List (List ℕ)) (input_failed output_failed : Bool)
-    (input_kind output_kind : Option ErrorKind) (result : Result ℕ RequestFault) : Type 0 where
+pub record EndsRecords {X : Type 0} (file_at : List ℕ → NamedFile) (texts : List (List ℕ))
+    (input_failed output_failed : Bool) (input_kind output_kind : Option ErrorKind) (result : Result X RequestFault)
+    : Type 0 where
   -- with readable texts, a failed input or output is a file fault, and nothing else is
   pub device : All (λ text. is_readable (file_at text) ≡ true) texts
       → (IsErrOf (plain_result result) File ↔ ((input_failed ≡ true) ⊎ (output_failed ≡ true)))
