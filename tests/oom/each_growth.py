@@ -1,8 +1,8 @@
 #!/usr/bin/env python3
 """Fails each allocation of runs of the built program in turn. Each run must end with status 5, print nothing and report
 `pegtool: out of memory` on standard error, or print the same line with the same status as with enough memory. A run of
-`explain` with status 5 may have printed the whole messages of its first texts, and one with `--lines` the lines of its
-first records. The argument is the program, by default the one that `make run` builds. Needs a C compiler for the
+`explain` with status 5 may have printed the whole messages of its first texts, and one of `parse --lines` the lines of
+its first records. The argument is the program, by default the one that `make run` builds. Needs a C compiler for the
 library that fails allocations. tests/oom/README.md lists the calls that these runs reach."""
 import concurrent.futures
 import os
@@ -124,6 +124,10 @@ COMMANDS = [
     "profile chain.peg --coverage chain.txt",
     "profile prefix.peg --coverage deep.txt --steps 100",
     "profile cycle.peg --coverage chain.txt",
+    "profile chain.peg --coverage --lines records.txt chain.txt records.txt",
+    "profile chain.peg --coverage --lines records.txt --crlf --steps 40 --memo 0",
+    "profile chain.peg --coverage --lines records.txt --start T",
+    "profile cycle.peg --coverage --lines",
     "--help",
     "parse --help",
     "tables",
@@ -142,10 +146,11 @@ class Case:
 
     def may_print(self, printed: bytes, wanted: bytes) -> bool:
         """Whether a run that is out of memory may print this: nothing, for `explain` the messages of the first texts,
-        and with `--lines` the lines of the first records. A message of `explain` ends with the line of its caret."""
+        and for `parse --lines` the lines of the first records. A message of `explain` ends with the line of its caret."""
         last_line = rb"^ *\^\n" if self.label.startswith("explain") else rb"^.*\n"
         ends = [end.end() for end in re.finditer(last_line, wanted, re.MULTILINE)]
-        is_early = self.label.startswith("explain") or "--lines" in self.label
+        prints_records = self.label.startswith("parse") and "--lines" in self.label
+        is_early = self.label.startswith("explain") or prints_records
         return printed == b"" or (is_early and printed in [wanted[:end] for end in ends])
 
     def judge(self, program: str, library: str) -> list[str]:

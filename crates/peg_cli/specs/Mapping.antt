@@ -5,7 +5,7 @@ use Rattle.clap.specs.Matches.{first_value, matched_of, one_text, raw_values}
 use Rattle.clap.specs.declared.parser.matches.Found.{Found}
 use Rattle.peg_cli.specs.Words.{default_coverage_memo, default_profile_memo}
 use Rattle.peg_cli.specs.declared.words.Words.{Words}
-use Rattle.peg_cli.specs.declared.words.Words.TheVariants.{Joined, Help, Table, Check, Code, Lint, Profile, Coverage, Explain, ExplainRecords, Test, Parse, Records}
+use Rattle.peg_cli.specs.declared.words.Words.TheVariants.{Joined, Help, Table, Check, Code, Lint, Profile, Coverage, RecordCoverage, Explain, ExplainRecords, Test, Parse, Records}
 
 -- all values of an argument, in the order of the command line; none if it is not given
 abbrev pub all_values : Found → (id : List ℕ) → List (List ℕ)
@@ -45,8 +45,20 @@ IsCommandOf name found (Profile g t start memo steps) = (name ≡ codes "profile
     × (number_at found (codes "steps") ≡ steps)
 IsCommandOf name found (Coverage g texts start memo steps prefix) = (name ≡ codes "profile")
     × IsFlagAt found (codes "coverage") true
+    × IsFlagAt found (codes "lines") false
     × (first_value found (codes "G") ≡ Some (string_bytes g))
     × (all_values found (codes "T") ≡ map string_bytes texts.items)
+    × (first_value found (codes "start") ≡ option_map string_bytes start)
+    × (memo ≡ memo_or found default_coverage_memo)
+    × (number_at found (codes "steps") ≡ steps)
+    × IsFlagAt found (codes "prefix") prefix
+IsCommandOf name found (RecordCoverage g texts null crlf start memo steps prefix) = (name ≡ codes "profile")
+    × IsFlagAt found (codes "coverage") true
+    × IsFlagAt found (codes "lines") true
+    × (first_value found (codes "G") ≡ Some (string_bytes g))
+    × (all_values found (codes "T") ≡ map string_bytes texts.items)
+    × IsFlagAt found (codes "null") null
+    × IsFlagAt found (codes "crlf") crlf
     × (first_value found (codes "start") ≡ option_map string_bytes start)
     × (memo ≡ memo_or found default_coverage_memo)
     × (number_at found (codes "steps") ≡ steps)

@@ -81,11 +81,11 @@ fn lint<'a>(alloc: Global) -> Result<Command<'a>, AllocError> {
 }
 
 fn profile<'a>(alloc: Global) -> Result<Command<'a>, AllocError> {
-    Command::new(alloc, "profile")
+    let profile = Command::new(alloc, "profile")
         .about("Prints how often a parse calls each rule, or what texts use of a grammar")
         .after_help(PROFILE_NOTES)
         .arg(grammar_file(alloc))?
-        .arg(profiled_files(alloc))?
+        .arg(profiled_files(alloc)?)?
         .arg(flag(
             alloc,
             "coverage",
@@ -94,7 +94,19 @@ fn profile<'a>(alloc: Global) -> Result<Command<'a>, AllocError> {
         .arg(prefix_flag(alloc)?)?
         .arg(start_option(alloc))?
         .arg(profile_memo_option(alloc))?
-        .arg(steps_option(alloc).default_value("1000000000"))
+        .arg(steps_option(alloc).default_value("1000000000"))?;
+    with_covered_record_options(alloc, profile)
+}
+
+// Adds the options for the coverage of records.
+fn with_covered_record_options<'a>(
+    alloc: Global,
+    profile: Command<'a>,
+) -> Result<Command<'a>, AllocError> {
+    profile
+        .arg(covered_lines_flag(alloc)?)?
+        .arg(record_null_flag(alloc)?)?
+        .arg(crlf_flag(alloc)?)
 }
 
 fn explain<'a>(alloc: Global) -> Result<Command<'a>, AllocError> {
@@ -213,12 +225,12 @@ fn parsed_files<'a>(alloc: Global) -> Result<Arg<'a>, AllocError> {
         .required_unless_present("lines")
 }
 
-// One file, or several under `--coverage`, before, between and after options.
-fn profiled_files<'a>(alloc: Global) -> Arg<'a> {
+// One file, several under `--coverage`, or any number under `--lines`, before, between and after options.
+fn profiled_files<'a>(alloc: Global) -> Result<Arg<'a>, AllocError> {
     Arg::new(alloc, "T")
         .num_args(1..)
-        .help("The file to parse, or several with --coverage")
-        .required(true)
+        .help("The file to parse, or several with --coverage, any number with --lines")
+        .required_unless_present("lines")
 }
 
 // Any number of files, before, between and after options.
@@ -269,6 +281,16 @@ fn prefix_flag<'a>(alloc: Global) -> Result<Arg<'a>, AllocError> {
         alloc,
         "prefix",
         "Counts a text as a match if a prefix of it matches",
+    )
+    .requires_arg("coverage")
+}
+
+// With `--coverage`, that records are covered.
+fn covered_lines_flag<'a>(alloc: Global) -> Result<Arg<'a>, AllocError> {
+    flag(
+        alloc,
+        "lines",
+        "Takes each record of the texts, or of standard input without texts, as a text",
     )
     .requires_arg("coverage")
 }
@@ -459,6 +481,10 @@ file; \"tried\" says whether a text tries it. This says what these texts show, n
 what can happen. \"matched\" counts the texts that match as a whole, or with --prefix
 those of which a prefix matches. A text whose parse takes more steps than --steps
 allows uses nothing; \"stopped\" counts these texts, and standard error names them.
+
+With --lines, each record of the texts is a text of its own. A record ends at LF; the
+last one may lack its end. Texts may have any length. Standard error names a stopped
+record by its number, from 1 on through all texts.
 
 Status: 0 matched, or everything is used; 1 failed, or something is unused; 2 the
 grammar is refused; 3 wrong arguments, or an unknown rule; 4 a file can't be opened

@@ -85,6 +85,19 @@ pub enum Words {
         steps: Option<u64>,
         prefix: bool,
     },
+    /// Print which rules and alternatives of grammar file `g` match in no record of the text files `texts`, or of standard
+    /// input without `texts`. Records end at a zero byte with `null`, otherwise at LF; with `crlf`, a CR before the LF isn't
+    /// part of the record. At most one of the two is given. The other fields are those of `Coverage`.
+    RecordCoverage {
+        g: String,
+        texts: Vec<String>,
+        null: bool,
+        crlf: bool,
+        start: Option<String>,
+        memo: u32,
+        steps: Option<u64>,
+        prefix: bool,
+    },
     /// Print where texts don't match grammar file `g`, as messages for people: first the text files `texts`, then those
     /// that file `files_from` lists; `-` is standard input. With `null`, names in that list end at a zero byte,
     /// otherwise at a line end. With `rules` each expected item has its rule, and with `terminals` none is named after
@@ -273,10 +286,42 @@ fn coverage_of(alloc: Global, matches: &ArgMatches<'_>) -> Result<Words, WordsFa
     ensures command { IsFlagAt (found_of matches.now) (codes "coverage") true
         → IfOk result (IsCommandOf (codes "profile") (found_of matches.now)) }
 {
+    if !matches.get_flag("lines") {
+        return text_coverage_of(alloc, matches);
+    }
+    record_coverage_of(alloc, matches)
+}
+
+// The coverage of texts.
+fn text_coverage_of(alloc: Global, matches: &ArgMatches<'_>) -> Result<Words, WordsFault>
+    ensures asking { IfOk result IsAsking }
+    ensures command { IsFlagAt (found_of matches.now) (codes "coverage") true
+        → IsFlagAt (found_of matches.now) (codes "lines") false
+        → IfOk result (IsCommandOf (codes "profile") (found_of matches.now)) }
+{
     let texts = file_names(alloc, matches, "T")?;
     Ok(Words::Coverage {
         g: file_name(alloc, matches, "G")?,
         texts,
+        start: optional_text(alloc, matches, "start")?,
+        memo: memo_size_or(alloc, matches, COVERAGE_MEMO)?,
+        steps: step_limit(alloc, matches)?,
+        prefix: matches.get_flag("prefix"),
+    })
+}
+
+// The coverage of the records of texts.
+fn record_coverage_of(alloc: Global, matches: &ArgMatches<'_>) -> Result<Words, WordsFault>
+    ensures asking { IfOk result IsAsking }
+    ensures command { IsFlagAt (found_of matches.now) (codes "coverage") true
+        → IsFlagAt (found_of matches.now) (codes "lines") true
+        → IfOk result (IsCommandOf (codes "profile") (found_of matches.now)) }
+{
+    Ok(Words::RecordCoverage {
+        g: file_name(alloc, matches, "G")?,
+        texts: file_names(alloc, matches, "T")?,
+        null: matches.get_flag("null"),
+        crlf: matches.get_flag("crlf"),
         start: optional_text(alloc, matches, "start")?,
         memo: memo_size_or(alloc, matches, COVERAGE_MEMO)?,
         steps: step_limit(alloc, matches)?,

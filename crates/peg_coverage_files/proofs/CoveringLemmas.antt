@@ -1,13 +1,14 @@
 -- The texts in files, and what they use.
 use Rattle.std.proofs.Common.{◌≡◌, ◌↔◌, ◌∙◌, ℕ, zero, suc, ◌+◌, ◌<◌, ◌≤◌, ◌++◌, ◌≢◌, inl, inr, All, Bool, true, false, ◌||◌, List, [], ◌∷◌}
-use Rattle.std.proofs.Common.{Option, None, Some, IfSome, add-one, ap, arith, cond, count_by, filter, get_or, length, map, not, option_map, refl, slice_index_or, string_bytes}
+use Rattle.std.proofs.Common.{Option, None, Some, IfSome, add-one, ap, arith, cond, count_by, filter, get_or, length, length-append, map, not, option_map, refl, slice_index_or, string_bytes}
 use Rattle.std.proofs.Common.{length-take, IfErr, IfOk, OnErr, OnOk, Result, Ok, Err, subst, sym, take}
 use Rattle.std.specs.Prelude.{IsErrAnd}
 use Rattle.std.proofs.Math.Seq.{take-suc}
 use Rattle.std.proofs.lemmas.List.{length-map, map-append, take-map, take_all}
 use Rattle.std.proofs.lemmas.Bool.{cases_lt, false≢true}
 use Rattle.std.proofs.lemmas.Option.{slice_get-get_or, slice_get-map}
-use Rattle.std.proofs.lemmas.List.Elements.{All-cons, All-nil, All-push, filter-append}
+use Rattle.std.proofs.lemmas.List.Elements.{All-cons, All-filter, All-head, All-map, All-nil, All-push, All-tail, filter-append}
+use Rattle.std.proofs.lemmas.List.FromFn.{get_or-range_with_len, length-range_with_len}
 use Rattle.std.proofs.lemmas.List.Folds.{list_any-append}
 use Rattle.std.proofs.lemmas.List.Sums.{sum_by_push}
 use Rattle.std.specs.List.{enumerate_from, list_any, range_with_len}
@@ -18,7 +19,8 @@ use Rattle.peg_coverage.specs.Covered.{Stopped, TextOutcome}
 use Rattle.peg_coverage.specs.Covered.{AreParsed, IsAttemptIn, has_noted, is_enough, is_made, is_match, is_stopped, makes}
 use Rattle.peg_coverage.specs.Covered.{stopped_numbers}
 use Rattle.peg_coverage.specs.Steps.{IsWithinSteps}
-use Rattle.peg_coverage.specs.Unused.{unused_alternatives, unused_rules}
+use Rattle.peg_coverage.specs.Unused.{RuleUse, rule_use, unmatched, unused_alternatives, unused_rules}
+use Rattle.peg_coverage.specs.declared.coverage.UnusedRule.{UnusedRule}
 use Rattle.peg_coverage.specs.declared.text_match.RequiredMatch.{RequiredMatch}
 use Rattle.peg_coverage.specs.declared.text_match.TextMatch.{TextMatch}
 use Rattle.peg_diagnostics.specs.Attempts.{Attempt, TriedRule, MatchedRule, TriedAlternative, MatchedAlternative}
@@ -26,11 +28,12 @@ use Rattle.peg_diagnostics.specs.Attempts.{shown_by}
 use Rattle.peg_diagnostics.specs.Marked.{alternatives_of_rules, extents_of_alternatives, marked_rules}
 use Rattle.peg_diagnostics.proofs.MarkBounds.{length-extents_of_rules}
 use Rattle.peg_bytes.specs.Extent.{Extent, between}
-use Rattle.peg_coverage_files.specs.CoveredTexts.{HasCoveredText, IsReadFault, IsReadOf}
-use Rattle.peg_coverage_files.specs.CoveringFaults.{IsFaultOf, IsFaultOfText, IsFirst, IsParsable}
+use Rattle.peg_coverage_files.specs.CoveredTexts.{AddsText, AreCovered, HasCoveredText, IsReadFault, IsReadOf}
+use Rattle.peg_coverage_files.specs.CoveringFaults.{IsFaultOf, IsFaultOfBytes, IsFaultOfText, IsFirst, IsParsable}
 use Rattle.peg_coverage_files.specs.NamedTexts.{files_named, texts_in}
 use Rattle.peg_coverage_files.specs.TextEnds.{end_of, end_of_parse, ended_by, matches_of, stops_of}
 use Rattle.peg_coverage_files.specs.declared.counts.TextEnd.{TextEnd}
+use Rattle.peg_coverage_files.specs.declared.covered.CoveredTexts.{CoveredTexts}
 use Rattle.peg_coverage_files.specs.declared.counts.TextEnd.TheVariants as end
 use Rattle.peg_coverage_files.specs.declared.fault.CoveringFault.{CoveringFault}
 use Rattle.peg_coverage_files.specs.declared.fault.CoveringFault.TheVariants as covering
@@ -58,6 +61,7 @@ read-fault (Err (covering.File unread kind)) name file never there sure is =
     unsure : (b : Bool) → is_readable file ≡ b → b ≡ false
     unsure true readable = sym (sure readable) ∙ is.1
     unsure false readable = refl
+read-fault (Err covering.Input) name file never there sure is = is
 read-fault (Err covering.NoSuchStart) name file never there sure is = is
 read-fault (Err covering.TextTooLong) name file never there sure is = is
 read-fault (Err covering.Memory) name file never there sure is = tt
@@ -114,29 +118,101 @@ text-covered rules start settings needed known text before after (Err parse.Step
 )
 text-covered rules start settings needed known text before after (Err parse.Memory) read long covered same limited enough within = tt
 
--- a text whose parse doesn't refuse it is there, and isn't too long
-pub text-parsable : (rules : List Rule) (text : List ℕ) (named : Option (List ℕ)) (file : NamedFile)
-    (needed : RequiredMatch) (covered : Result TextMatch ParseFault) → ¬ IsMissing file → IsReadOf (bytes_of file) text
-    → HasParseFaults rules text named covered → OnOk (end_of_parse needed covered) (IsParsable file)
-text-parsable rules text named file needed covered present read faults = by covered refl
+-- a text whose parse doesn't refuse it isn't too long
+pub short-parsed : (rules : List Rule) (text : List ℕ) (named : Option (List ℕ)) (needed : RequiredMatch)
+    (covered : Result TextMatch ParseFault) → HasParseFaults rules text named covered
+    → OnOk (end_of_parse needed covered) (length text ≤ max_text_bytes)
+short-parsed rules text named needed covered faults = by covered refl
   where
-    allowed : ¬ (covered ≡ Err parse.NoSuchStart) → ¬ (covered ≡ Err parse.TextTooLong) → IsParsable file
+    allowed : ¬ (covered ≡ Err parse.NoSuchStart) → ¬ (covered ≡ Err parse.TextTooLong)
+        → length text ≤ max_text_bytes
     allowed known short =
         let from = some-of (start_name rules named) (λ none. known (faults.no_start.1 none)) in
-        let within : length text ≤ max_text_bytes = elim (cases_lt max_text_bytes (length text)) [
+        elim (cases_lt max_text_bytes (length text)) [
           | inl over ↦ absurd (short ((faults.long from.0 from.1).1 over))
           | inr within ↦ within
-        ] in (
-          present,
-          of-known (bytes_of file) text (λ bytes. length bytes ≤ max_text_bytes) (read.whole within) within,
-        )
+        ]
 
-    by : (found : Result TextMatch ParseFault) → covered ≡ found → OnOk (end_of_parse needed found) (IsParsable file)
+    by : (found : Result TextMatch ParseFault) → covered ≡ found
+        → OnOk (end_of_parse needed found) (length text ≤ max_text_bytes)
     by (Ok found) is = allowed (λ bad. cc) (λ bad. cc)
     by (Err parse.NoSuchStart) is = tt
     by (Err parse.TextTooLong) is = tt
     by (Err parse.StepLimit) is = allowed (λ bad. cc) (λ bad. cc)
     by (Err parse.Memory) is = tt
+
+-- a fault of a parse is true of the text or of the start
+pub fault-parsed : (rules : List Rule) (text : List ℕ) (named : Option (List ℕ)) (needed : RequiredMatch)
+    (covered : Result TextMatch ParseFault) → HasParseFaults rules text named covered
+    → IfErr (end_of_parse needed covered) (IsFaultOfBytes rules text named)
+fault-parsed rules text named needed covered faults = by covered refl
+  where
+    by : (found : Result TextMatch ParseFault) → covered ≡ found
+        → IfErr (end_of_parse needed found) (IsFaultOfBytes rules text named)
+    by (Ok found) is = tt
+    by (Err parse.NoSuchStart) is = faults.no_start.0 is
+    by (Err parse.TextTooLong) is =
+        let from = some-of (start_name rules named) (λ none. let bad = faults.no_start.1 none in cc) in
+        (faults.long from.0 from.1).0 is
+    by (Err parse.StepLimit) is = tt
+    by (Err parse.Memory) is = tt
+
+-- the bytes in memory are those of a text that is read from memory
+pub read-same : (text : List ℕ) → IsReadOf (Some text) text
+read-same text = record { longer = λ more. more; whole = λ within. refl }
+
+-- what is covered of the bytes that are read of a file is covered of the file
+pub adds-known : (rules : List Rule) (start : List ℕ) (settings : ParseSettings) (needed : RequiredMatch)
+    (known : Option (List ℕ)) (text : List ℕ) (before after : CoveredTexts) → IsReadOf known text
+    → length text ≤ max_text_bytes → AddsText rules start settings needed (Some text) before after
+    → AddsText rules start settings needed known before after
+adds-known rules start settings needed known text before after read within adds =
+    let item = adds.covered.0 in
+    let Parsed = λ (o : Option (List ℕ)). IfSome o (λ bytes. IsOutcomeOf rules start settings bytes item.outcome) in
+    record {
+      end = adds.end;
+      covered = (
+        record { text = known; outcome = item.outcome },
+        refl,
+        of-known known text (λ bytes. IsOutcomeOf rules start settings bytes item.outcome) (read.whole within)
+            (subst Parsed adds.covered.1 adds.covered.2),
+        adds.covered.3,
+        adds.covered.4,
+      );
+      texts = adds.texts;
+      matched = adds.matched;
+      stopped = adds.stopped;
+    }
+
+-- the same of a result
+pub adds-read : {X : Type 0} (rules : List Rule) (start : List ℕ) (settings : ParseSettings) (needed : RequiredMatch)
+    (known : Option (List ℕ)) (text : List ℕ) (before after : CoveredTexts) (result : Result X CoveringFault)
+    → IsReadOf known text → OnOk result (length text ≤ max_text_bytes)
+    → OnOk result (AddsText rules start settings needed (Some text) before after)
+    → OnOk result (AddsText rules start settings needed known before after)
+adds-read rules start settings needed known text before after (Ok x) read within adds =
+    adds-known rules start settings needed known text before after read within adds
+adds-read rules start settings needed known text before after (Err fault) read within adds = tt
+
+-- a text that isn't refused is there, and isn't too long
+pub read-parsable : {X : Type 0} (file : NamedFile) (text : List ℕ) (result : Result X CoveringFault)
+    → ¬ IsMissing file → IsReadOf (bytes_of file) text → OnOk result (length text ≤ max_text_bytes)
+    → OnOk result (IsParsable file)
+read-parsable file text (Ok x) present read within =
+    (present, of-known (bytes_of file) text (λ bytes. length bytes ≤ max_text_bytes) (read.whole within) within)
+read-parsable file text (Err fault) present read within = tt
+
+-- a fault of the bytes that are read of a file is true of the file
+pub fault-read : {X : Type 0} (rules : List Rule) (file_at : List ℕ → NamedFile) (name text : List ℕ)
+    (named : Option (List ℕ)) (result : Result X CoveringFault) → ¬ IsMissing (file_at name)
+    → IsReadOf (bytes_of (file_at name)) text → IfErr result (IsFaultOfBytes rules text named)
+    → IfErr result (IsFaultOfText rules file_at name named)
+fault-read rules file_at name text named (Ok x) present read fault = tt
+fault-read rules file_at name text named (Err (covering.File unread kind)) present read fault = absurd fault
+fault-read rules file_at name text named (Err covering.Input) present read fault = fault
+fault-read rules file_at name text named (Err covering.NoSuchStart) present read fault = fault
+fault-read rules file_at name text named (Err covering.TextTooLong) present read fault = (present, read.longer fault)
+fault-read rules file_at name text named (Err covering.Memory) present read fault = tt
 
 -- a result that is a fault
 pub refused-by : {X : Type 0} (result : Result X CoveringFault) (why : CoveringFault) (Is : CoveringFault → Type 0)
@@ -158,20 +234,8 @@ files-more file_at names i name within is =
     ∙ map-append file_at (map string_bytes (take i names)) (string_bytes (get_or names i name) ∷ [])
     ∙ ap (λ (n : String Global). files_named file_at (take i names) ++ at n ∷ []) (sym is)
 
--- the number of the first files
-pub files-count : (file_at : List ℕ → NamedFile) (names : List (String Global)) (i : ℕ) → i ≤ length names
-    → i ≡ length (files_named file_at (take i names))
-files-count file_at names i within =
-    omega (
-      arith,
-      within,
-      length-take i names,
-      length-map (take i names) string_bytes,
-      length-map (map string_bytes (take i names)) file_at,
-    )
-
 -- the name after the first ones
-first-name : (IsBefore Is : List ℕ → Type 0) (names : List (String Global)) (i : ℕ) (name : String Global)
+pub first-name : (IsBefore Is : List ℕ → Type 0) (names : List (String Global)) (i : ℕ) (name : String Global)
     → i < length names → name ≡ get_or names i name → All IsBefore (map string_bytes (take i names))
     → Is (string_bytes name) → IsFirst IsBefore Is (map string_bytes names)
 first-name IsBefore Is names i name within is before p = record {
@@ -192,6 +256,7 @@ pub file-fault : (rules : List Rule) (named : Option (List ℕ)) (file_at : List
 file-fault rules named file_at names i name (covering.File of kind) within is before fault =
     first-name (λ n. IsParsable (file_at n)) (λ n. IsFaultOfText rules file_at n named (covering.File of kind)) names i name
     within is before fault
+file-fault rules named file_at names i name covering.Input within is before fault = fault
 file-fault rules named file_at names i name covering.NoSuchStart within is before fault = fault
 file-fault rules named file_at names i name covering.TextTooLong within is before fault =
     first-name (λ n. IsParsable (file_at n)) (λ n. IsFaultOfText rules file_at n named covering.TextTooLong) names i name
@@ -238,12 +303,6 @@ match-count needed (Ended found attempts) = by (is_enough needed found)
     by true = refl
     by false = refl
 match-count needed Stopped = refl
-
--- there are at most as many matches as texts
-pub few-more : (how : TextEnd) (old new number : ℕ) → new ≡ old + matches_of how → old ≤ number → new ≤ number + 1
-few-more end.Matched old new number is few = omega (arith, is, few)
-few-more end.Failed old new number is few = omega (arith, is, few)
-few-more end.Stopped old new number is few = omega (arith, is, few)
 
 -- the number of matches with a further text
 matches-more : (needed : RequiredMatch) (parsed : List ParsedText) (item : ParsedText) (matched more : ℕ)
@@ -299,39 +358,52 @@ stops-more needed parsed item =
 
 -- the texts so far and a further one
 pub covered-more : (rules : List Rule) (start : List ℕ) (settings : ParseSettings) (needed : RequiredMatch)
-    (files : List NamedFile) (file : NamedFile) (before mid after : List Bool) (how : TextEnd) (number matched more : ℕ)
-    (stopped now : List ℕ) → number ≡ length files
-    → HaveCovered rules start settings needed (texts_in files) before mid matched stopped
-    → HasCoveredText rules start settings needed (bytes_of file) mid after how → more ≡ matched + matches_of how
-    → now ≡ stopped ++ stops_of number how
-    → HaveCovered rules start settings needed (texts_in (files ++ file ∷ [])) before after more now
-covered-more rules start settings needed files file before mid after how number matched more stopped now at so_far one count
-    stop =
+    (prior : List (Option (List ℕ))) (text : Option (List ℕ)) (set : List Bool) (before after : CoveredTexts)
+    → AreCovered rules start settings needed prior set before
+    → AddsText rules start settings needed text before after
+    → AreCovered rules start settings needed (prior ++ text ∷ []) set after
+covered-more rules start settings needed prior text set before after so_far adds =
+    let one = adds.covered in
     let item = one.0 in
-    let parsed = so_far.parsed in
-    let are = so_far.are in
-    let text = λ (t : ParsedText). t.text in
-    let size : number ≡ length parsed =
-    at ∙ sym (length-map files bytes_of) ∙ sym (ap length are.of_texts) ∙ length-map parsed text in
+    let parsed = so_far.have.parsed in
+    let are = so_far.have.are in
+    let text_of = λ (t : ParsedText). t.text in
+    let size : before.counts.texts ≡ length parsed =
+    so_far.count ∙ sym (ap length are.of_texts) ∙ length-map parsed text_of in
     record {
-      parsed = parsed ++ item ∷ [];
-      are = record {
-        of_texts = map-append text parsed (item ∷ [])
-            ∙ (λ i. are.of_texts i ++ one.1 i ∷ [])
-            ∙ sym (map-append bytes_of files (file ∷ []));
-        right = All-push (IsParsed rules start settings) parsed item are.right one.2;
-        matches = matches-more needed parsed item matched more are.matches
-            (count ∙ ap (λ (e : TextEnd). matched + matches_of e) one.3);
-        stops = stop
-            ∙ (λ i. are.stops i ++ stops_of (size i) (one.3 i))
-            ∙ sym (stops-more needed parsed item);
+      have = record {
+        parsed = parsed ++ item ∷ [];
+        are = record {
+          of_texts = map-append text_of parsed (item ∷ []) ∙ (λ i. are.of_texts i ++ one.1 i ∷ []);
+          right = All-push (IsParsed rules start settings) parsed item are.right one.2;
+          matches = matches-more needed parsed item before.counts.matched after.counts.matched are.matches
+              (adds.matched ∙ ap (λ (e : TextEnd). before.counts.matched + matches_of e) one.3);
+          stops = adds.stopped
+              ∙ (λ i. are.stops i ++ stops_of (size i) (one.3 i))
+              ∙ sym (stops-more needed parsed item);
+        };
+        noted = λ attempt within.
+            let has = λ (t : ParsedText). makes attempt t.outcome in
+            noted-more (has item) (list_any has parsed) (has_noted rules set attempt) (has_noted rules after.used attempt)
+            (has_noted rules before.used attempt) (one.4 attempt within) (so_far.have.noted attempt within)
+            ∙ ap (λ (b : Bool). b || has_noted rules set attempt) (sym (list_any-append has parsed (item ∷ [])));
       };
-      noted = λ attempt within.
-          let has = λ (t : ParsedText). makes attempt t.outcome in
-          noted-more (has item) (list_any has parsed) (has_noted rules before attempt) (has_noted rules after attempt)
-          (has_noted rules mid attempt) (one.4 attempt within) (so_far.noted attempt within)
-          ∙ ap (λ (b : Bool). b || has_noted rules before attempt) (sym (list_any-append has parsed (item ∷ [])));
+      count = omega (arith, adds.texts, so_far.count, length-append prior (text ∷ []));
     }
+
+-- the texts in files so far and a further one
+pub covered-file : (rules : List Rule) (start : List ℕ) (settings : ParseSettings) (needed : RequiredMatch)
+    (file_at : List ℕ → NamedFile) (names : List (String Global)) (i : ℕ) (name : String Global) (set : List Bool)
+    (before after : CoveredTexts) → i < length names → name ≡ get_or names i name
+    → AreCovered rules start settings needed (texts_in (files_named file_at (take i names))) set before
+    → AddsText rules start settings needed (bytes_of (file_at (string_bytes name))) before after
+    → AreCovered rules start settings needed (texts_in (files_named file_at (take (i + 1) names))) set after
+covered-file rules start settings needed file_at names i name set before after within is so_far adds =
+    let files = files_named file_at (take i names) in
+    let file = file_at (string_bytes name) in
+    let more = ap texts_in (files-more file_at names i name within is) ∙ map-append bytes_of files (file ∷ []) in
+    subst (λ (texts : List (Option (List ℕ))). AreCovered rules start settings needed texts set after) (sym more)
+    (covered-more rules start settings needed (texts_in files) (bytes_of file) set before after so_far adds)
 
 -- a set that was empty has the attempts of the texts
 or-false : (b : Bool) → (b || false) ≡ b
@@ -418,3 +490,37 @@ stopped-below rules start settings needed texts parsed matched stopped are =
     let count = length-map parsed (λ (t : ParsedText). t.text) in
     subst (All (λ (number : ℕ). number < length texts)) (sym are.stops)
     (stops-from (length texts) 0 parsed (omega (arith, size, count)))
+
+-- ---- unused rules
+
+-- unused rules are rules of the grammar
+numbers-below : (rules : List Rule) (matches : ℕ → Bool)
+    → All (λ (rule : ℕ). rule < length rules) (unmatched matches (length rules))
+numbers-below rules matches =
+    All-filter (λ (number : ℕ). not (matches number)) (λ (rule : ℕ). rule < length rules)
+    (range_with_len 0 (length rules)) (λ k d within.
+    let count = length-range_with_len 0 (length rules) in
+    let at = get_or-range_with_len 0 (length rules) k d (omega (arith, within, count)) in
+    omega (arith, at, within, count))
+
+uses-below : (bound : ℕ) (made : Attempt → Bool) (numbers : List ℕ) → All (λ (rule : ℕ). rule < bound) numbers
+    → All (λ (unused : RuleUse). unused.0 < bound) (map (λ rule. (rule, made (TriedRule rule))) numbers)
+uses-below bound made numbers all =
+    All-map (λ (unused : RuleUse). unused.0 < bound) (λ rule. (rule, made (TriedRule rule))) numbers all
+
+items-below : (bound : ℕ) (items : List UnusedRule)
+    → All (λ (unused : RuleUse). unused.0 < bound) (map rule_use items)
+    → All (λ (unused : UnusedRule). unused.rule < bound) items
+items-below bound [] all = All-nil (λ (unused : UnusedRule). unused.rule < bound)
+items-below bound (item ∷ items) all =
+    All-cons (λ (unused : UnusedRule). unused.rule < bound) item items
+    (All-head (λ (unused : RuleUse). unused.0 < bound) (rule_use item) (map rule_use items) all)
+    (items-below bound items (All-tail (λ (unused : RuleUse). unused.0 < bound) (rule_use item) (map rule_use items) all))
+
+pub unused-below : (rules : List Rule) (made : Attempt → Bool) (items : List UnusedRule)
+    → map rule_use items ≡ unused_rules rules made
+    → All (λ (unused : UnusedRule). unused.rule < length rules) items
+unused-below rules made items is =
+    items-below (length rules) items (subst (All (λ (unused : RuleUse). unused.0 < length rules)) (sym is)
+    (uses-below (length rules) made (unmatched (λ rule. made (MatchedRule rule)) (length rules))
+    (numbers-below rules (λ rule. made (MatchedRule rule)))))

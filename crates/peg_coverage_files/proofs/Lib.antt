@@ -1,1 +1,3 @@
 pub mod CoveringLemmas
+mod RunLemmas
+mod StreamLemmas

@@ -4,9 +4,14 @@ pub use Rattle.peg_grammar.specs.Limits
 pub use Rattle.peg_io.specs.NamedFile
 pub use Rattle.peg_parser.specs.Parser
 pub use Rattle.peg_parser.specs.StepLimits
+pub use Rattle.peg_record_files.specs.Streams
+pub use Rattle.peg_records.specs.Records
 pub use Rattle.peg_semantics.specs.Rules
 pub use Rattle.peg_semantics.specs.Starts
+pub mod CoverRuns
+pub mod CoverTerms
 pub mod CoveredTexts
 pub mod CoveringFaults
 pub mod NamedTexts
+pub mod RecordFaults
 pub mod TextEnds

@@ -32,7 +32,7 @@ use Rattle.peg_record_files.specs.declared.filter.RecordFilter.TheVariants.{All}
 use Rattle.peg_record_files.specs.declared.outcome.RecordOutcome.{RecordOutcome}
 use Rattle.peg_record_files.specs.declared.outcome.RecordOutcome.TheVariants.{Matches}
 use Rattle.peg_record_files.specs.declared.place.RecordPlace.{RecordPlace}
-use Rattle.peg_record_files.proofs.FileLemmas.{first-stream, names-around, split-streams}
+use Rattle.peg_record_files.proofs.StreamLemmas.{first-stream, names-around, split-streams}
 use Rattle.peg_record_files.proofs.ReplyLemmas.{worse-assoc, worse-none}
 use Rattle.peg_records.specs.Ahead.{IsGivenFor}
 use Rattle.peg_records.specs.Records.{records}

@@ -2,3 +2,4 @@ pub mod FileLemmas
 pub mod ReplyLemmas
 mod RunLemmas
 pub mod WeakerReplies
+pub mod StreamLemmas

@@ -3,7 +3,6 @@ use Rattle.std.proofs.Common.{◌≡◌, ◌∙◌, ℕ, List, [], ◌++◌, Opt
 use Rattle.std.specs.Io.KnownBytes.{Appends}
 use Rattle.peg_io.specs.Transfer.{AppendsProperPrefix}
 use Rattle.peg_records.specs.Readers.{IsAheadOf}
-use Rattle.peg_records.specs.declared.reader.RecordReader.{RecordReader}
 use Rattle.peg_records.specs.declared.end.RecordEnd.{RecordEnd}
 use Rattle.peg_record_files.specs.Runs.{AddsFirst, AddsPart, AddsReplies, LeadsFirst, LeadsTo}
 use Rattle.peg_record_files.specs.declared.fault.StreamFault.{StreamFault}
@@ -112,16 +111,6 @@ first-last IsReply filter end left ahead a b c old mid new done adds =
     subst (λ (l : List (List ℕ)). AddsReplies IsReply filter end l a.lines c.lines old new) (sym done.all)
     (adds-trans IsReply filter end done.first done.later a.lines b.lines c.lines old mid new done.adds adds)
 
--- ---- known bytes
-
--- what is true of known bytes
-pub known : (o : Option (List ℕ)) (x : List ℕ) (P : List ℕ → Type 0) → o ≡ Some x → IfSome o P → P x
-known o x P is p = subst (λ (found : Option (List ℕ)). IfSome found P) is p
-
-pub if-known : (o : Option (List ℕ)) (P Q : List ℕ → Type 0) → IfSome o P → ((x : List ℕ) → P x → Q x) → IfSome o Q
-if-known None P Q p step = tt
-if-known (Some x) P Q p step = step x p
-
 -- ---- ends
 
 -- what is added in part before a fault
@@ -138,21 +127,6 @@ pub first-in-part : (IsReply : RecordPlace → (text line : List ℕ) → Record
     → LeadsFirst IsReply filter end left ahead a b old new result
 first-in-part IsReply filter end left ahead a b old new why (Ok done) failed part = absurd failed
 first-in-part IsReply filter end left ahead a b old new why (Err fault) failed part = part
-
--- what is known of the bytes of a stream before any of them is read
-pub some-self : (o : Option (List ℕ)) (P : List ℕ → List ℕ → Type 0) → ((x : List ℕ) → P x x)
-    → IfSome o (λ x. (y : List ℕ) × (o ≡ Some y) × P x y)
-some-self None P all = tt
-some-self (Some x) P all = (x, refl, all x)
-
--- a block is read: the same records are ahead
-pub read-on : (o next : Option (List ℕ)) (left : List ℕ) (old new : RecordReader) (ahead : List (List ℕ)) → o ≡ Some left
-    → IfSome o (λ (l : List ℕ). (a : List (List ℕ)) → IsAheadOf old l a
-    → (later : List ℕ) × (next ≡ Some later) × IsAheadOf new later a)
-    → IsAheadOf old left ahead → (later : List ℕ) × (next ≡ Some later) × IsAheadOf new later ahead
-read-on o next left old new ahead is step before =
-    known o left (λ (l : List ℕ). (a : List (List ℕ)) → IsAheadOf old l a
-    → (later : List ℕ) × (next ≡ Some later) × IsAheadOf new later a) is step ahead before
 
 -- ---- a reader alone has changed before the others
 

@@ -10,16 +10,13 @@ use Rattle.std.proofs.lemmas.List.Concat.{flat_map-cons}
 use Rattle.std.specs.List.{flat_map}
 use Rattle.std.specs.Prelude.{Contains}
 use Rattle.std.specs.declared.io.ErrorKind.{ErrorKind}
-use Rattle.std.proofs.lemmas.List.Elements.{All-cons, All-filter, All-head, All-map, All-nil, All-tail}
+use Rattle.std.proofs.lemmas.List.Elements.{All-map}
 use Rattle.std.proofs.lemmas.Option.{get_or_from_slice_get, slice_get-map, slice_get_within}
-use Rattle.std.proofs.lemmas.List.FromFn.{get_or-range_with_len, length-range_with_len}
 use Rattle.std.specs.Io.KnownBytes.{Consumes, IsAtEnd, Keeps}
-use Rattle.std.specs.List.{range_with_len}
 use Rattle.std.proofs.lemmas.List.{get_or-map, length-map, take-map}
 use Rattle.peg_coverage.specs.Covered.{settings_of}
 use Rattle.peg_coverage.specs.CoverageFaults.{IsCoverageRefusal}
-use Rattle.peg_coverage.specs.Unused.{IsCoverageOf, RuleUse, alternative_use, rule_use, unmatched, unused_rules}
-use Rattle.peg_coverage.specs.declared.coverage.UnusedRule.{UnusedRule}
+use Rattle.peg_coverage.specs.Unused.{IsCoverageOf, alternative_use, rule_use}
 use Rattle.peg_coverage.specs.declared.text_match.RequiredMatch.{RequiredMatch}
 use Rattle.peg_coverage.specs.declared.coverage.Coverage.{Coverage}
 use Rattle.peg_coverage.specs.declared.fault.CoverageFault.{CoverageFault}
@@ -27,7 +24,6 @@ use Rattle.peg_coverage.specs.declared.fault.CoverageFault.TheVariants as covera
 use Rattle.peg_coverage_files.specs.CoveringFaults.{IsFirst, IsParsable, IsTooLong}
 use Rattle.peg_coverage_files.specs.NamedTexts.{files_named, texts_in}
 use Rattle.peg_coverage_files.proofs.CoveringLemmas.{stopped-below}
-use Rattle.peg_diagnostics.specs.Attempts.{Attempt, TriedRule, MatchedRule}
 use Rattle.std.specs.declared.alloc.Global.{Global}
 use Rattle.std.specs.declared.string.String.{String}
 use Rattle.peg_io.specs.NamedFile.{NamedFile, IsMissing, bytes_of, is_readable, open_error}
@@ -141,39 +137,7 @@ first-file file_at names first = record {
   is = first.is;
 }
 
--- ---- unused rules
-
--- unused rules are rules of the grammar
-numbers-below : (rules : List Rule) (matches : ℕ → Bool)
-    → All (λ (rule : ℕ). rule < length rules) (unmatched matches (length rules))
-numbers-below rules matches =
-    All-filter (λ (number : ℕ). not (matches number)) (λ (rule : ℕ). rule < length rules)
-    (range_with_len 0 (length rules)) (λ k d within.
-    let count = length-range_with_len 0 (length rules) in
-    let at = get_or-range_with_len 0 (length rules) k d (omega (arith, within, count)) in
-    omega (arith, at, within, count))
-
-uses-below : (bound : ℕ) (made : Attempt → Bool) (numbers : List ℕ) → All (λ (rule : ℕ). rule < bound) numbers
-    → All (λ (unused : RuleUse). unused.0 < bound) (map (λ rule. (rule, made (TriedRule rule))) numbers)
-uses-below bound made numbers all =
-    All-map (λ (unused : RuleUse). unused.0 < bound) (λ rule. (rule, made (TriedRule rule))) numbers all
-
-items-below : (bound : ℕ) (items : List UnusedRule)
-    → All (λ (unused : RuleUse). unused.0 < bound) (map rule_use items)
-    → All (λ (unused : UnusedRule). unused.rule < bound) items
-items-below bound [] all = All-nil (λ (unused : UnusedRule). unused.rule < bound)
-items-below bound (item ∷ items) all =
-    All-cons (λ (unused : UnusedRule). unused.rule < bound) item items
-    (All-head (λ (unused : RuleUse). unused.0 < bound) (rule_use item) (map rule_use items) all)
-    (items-below bound items (All-tail (λ (unused : RuleUse). unused.0 < bound) (rule_use item) (map rule_use items) all))
-
-pub unused-below : (rules : List Rule) (made : Attempt → Bool) (items : List UnusedRule)
-    → map rule_use items ≡ unused_rules rules made
-    → All (λ (unused : UnusedRule). unused.rule < length rules) items
-unused-below rules made items is =
-    items-below (length rules) items (subst (All (λ (unused : RuleUse). unused.0 < length rules)) (sym is)
-    (uses-below (length rules) made (unmatched (λ rule. made (MatchedRule rule)) (length rules))
-    (numbers-below rules (λ rule. made (MatchedRule rule)))))
+-- ---- stopped texts among the names
 
 -- stopped texts are among the names
 pub stopped-named : (rules : List Rule) (from : List ℕ) (options : ParseOptions) (needed : RequiredMatch) (file_at : List ℕ → NamedFile)

@@ -9,7 +9,7 @@ use Rattle.peg_messages.specs.FileNames.{shown_name}
 use Rattle.peg_tool.specs.Exits.{IsDeviceExit, IsExitAmong, IsExitFor, IsExitNaming, IsExitOfCause, IsExitOfResult, IsFileExit}
 use Rattle.peg_tool.specs.Exits.{exit_fault, report_exit}
 use Rattle.peg_tool.specs.Faults.{IsFaultAmong, IsFaultAt, IsKind, NamesCause, plain_result, record_streams, standard_input, stream_name}
-use Rattle.peg_tool.specs.Requests.{ToolRequest, InputRequest, HelpRequest, FileRequest, FilesRequest, CoverRequest, ExplainRequest, ExplainRecordsRequest, TestRequest, RecordsRequest}
+use Rattle.peg_tool.specs.Requests.{ToolRequest, InputRequest, HelpRequest, FileRequest, FilesRequest, CoverRequest, CoverRecordsRequest, ExplainRequest, ExplainRecordsRequest, TestRequest, RecordsRequest}
 use Rattle.peg_tool.specs.declared.exit.Exit.{Exit}
 use Rattle.peg_tool.specs.declared.exit.Exit.TheVariants.{Done, Reported, Usage, Device, Fault}
 use Rattle.peg_tool.specs.declared.fault.RequestFault.{RequestFault}
@@ -148,6 +148,14 @@ exit-cause (CoverRequest start memo steps needed g texts) file_at ended exit is 
     λ missing. exit-naming ended exit (shown_name g) None is
     (err-map ended (NamesCause (CoverRequest start memo steps needed g texts) file_at) (IsFaultAt (shown_name g) None)
     (λ fault n. n missing) names)
+exit-cause (CoverRecordsRequest g question) file_at ended exit is names = (
+  λ missing. exit-naming ended exit (shown_name g) None is
+      (err-map ended (NamesCause (CoverRecordsRequest g question) file_at) (IsFaultAt (shown_name g) None)
+      (λ fault n. n.0 missing) names),
+  λ readable. exit-among ended exit (record_streams question.texts) is
+      (err-map ended (NamesCause (CoverRecordsRequest g question) file_at) (IsFaultAmong (record_streams question.texts))
+      (λ fault n. n.1 readable) names),
+)
 exit-cause (ExplainRequest question printing) file_at ended exit is names = tt
 exit-cause (ExplainRecordsRequest question) file_at ended exit is names =
     exit-among ended exit (record_streams question.texts) is names

@@ -2,6 +2,7 @@ mod CoverageLemmas
 mod EndLemmas
 mod ExitLemmas
 mod ProgramLemmas
+mod RecordCoverageLemmas
 mod RecordsLemmas
 mod ReportLemmas
 mod TestedLemmas

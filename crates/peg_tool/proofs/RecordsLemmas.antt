@@ -89,7 +89,7 @@ records-refused task file line old new (Err Memory) refuses writes = absurd writ
 -- ---- the names of streams
 
 -- a text that is read is among the streams of records
-stream-among : (names : List (List ℕ)) (name : List ℕ) → Contains names name
+pub stream-among : (names : List (List ℕ)) (name : List ℕ) → Contains names name
     → Contains (record_streams names) (shown_name name)
 stream-among [] name has = absurd (omega (arith, has.1))
 stream-among (first ∷ rest) name has = (
@@ -167,7 +167,7 @@ fault-cause value file_at names input output (Err reading.Memory) (Err fault) pl
     subst (IsFaultAmong (record_streams names)) (sym has) tt
 
 -- only without texts is the input read
-reads-alone : (names : List (List ℕ)) (input_failed : Bool) → (names ≢ [] → input_failed ≡ false) → input_failed ≡ true
+pub reads-alone : (names : List (List ℕ)) (input_failed : Bool) → (names ≢ [] → input_failed ≡ false) → input_failed ≡ true
     → names ≡ []
 reads-alone [] input_failed unread failed = refl
 reads-alone (name ∷ names) input_failed unread failed =
@@ -202,15 +202,15 @@ records-end {T} value file_at names input_failed output_failed input output ende
     }
 
 -- without a failed output a refusal ends without a fault of a device
-works-fault : (names : List (List ℕ)) (result : Result ℕ RequestFault) → ¬ IsErrOf (plain_result result) File
-    → IfErr result (IsFaultAmong names)
+works-fault : {X : Type 0} (names : List (List ℕ)) (result : Result X RequestFault)
+    → ¬ IsErrOf (plain_result result) File → IfErr result (IsFaultAmong names)
 works-fault names (Ok status) works = tt
 works-fault names (Err failed.Memory) works = tt
 works-fault names (Err (failed.Device at kind)) works = absurd (works refl)
 
 -- which fault ends a request whose records aren't read
-pub refusal-end : (file_at : List ℕ → NamedFile) (names : List (List ℕ)) (input_failed output_failed : Bool)
-    (input output : Option ErrorKind) (result : Result ℕ RequestFault) → input_failed ≡ false
+pub refusal-end : {X : Type 0} (file_at : List ℕ → NamedFile) (names : List (List ℕ)) (input_failed output_failed : Bool)
+    (input output : Option ErrorKind) (result : Result X RequestFault) → input_failed ≡ false
     → (IsErrOf (plain_result result) File ↔ (output_failed ≡ true)) → IfErr result (IsFaultAt standard_output output)
     → EndsRecords file_at names input_failed output_failed input output result
 refusal-end file_at names input_failed output_failed input output result works fault named =
@@ -238,7 +238,7 @@ passed-fault ended fault (Ok it) was is = absurd is
 passed-fault ended fault (Err stated) was is =
     ap (λ f. Some (plain_fault f)) is ∙ sym (ap (λ r. result_err (plain_result r)) was)
 
-file-error : {X : Type 0} (result : Result X ProgramFault) → result_err result ≡ Some File → result ≡ Err File
+pub file-error : {X : Type 0} (result : Result X ProgramFault) → result_err result ≡ Some File → result ≡ Err File
 file-error (Ok done) is = absurd (let bad : None ≡ Some File = is in cc)
 file-error (Err fault) is = let same : fault ≡ File = cc in ap Err same
 

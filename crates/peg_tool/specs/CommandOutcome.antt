@@ -7,6 +7,7 @@ use Rattle.peg_io.specs.declared.opener.OpenFault.{OpenFault}
 use Rattle.peg_io.specs.declared.opener.OpenFault.TheVariants as opening
 use Rattle.peg_io.specs.NamedFile.{NamedFile, bytes_of}
 use Rattle.peg_tool.specs.CoverageOutcome.{CoverageOutcome}
+use Rattle.peg_tool.specs.RecordCoverage.{RecordCoverageOutcome}
 use Rattle.peg_tool.specs.Explanations.{ExplanationOutcome}
 use Rattle.peg_records.specs.Records.{records}
 use Rattle.peg_records.specs.declared.end.RecordEnd.{RecordEnd}
@@ -20,7 +21,7 @@ use Rattle.peg_replies.specs.Replies.{IsPrinted, IsPrintedJoined}
 use Rattle.peg_replies.specs.Task.{ToolTask}
 use Rattle.peg_tool.specs.TestOutcome.{TestOutcome}
 use Rattle.peg_tool.specs.RecordResults.{RecordsExplanation, records_result}
-use Rattle.peg_tool.specs.Requests.{ToolRequest, InputRequest, HelpRequest, FileRequest, FilesRequest, CoverRequest, ExplainRequest, ExplainRecordsRequest, TestRequest, RecordsRequest}
+use Rattle.peg_tool.specs.Requests.{ToolRequest, InputRequest, HelpRequest, FileRequest, FilesRequest, CoverRequest, CoverRecordsRequest, ExplainRequest, ExplainRecordsRequest, TestRequest, RecordsRequest}
 use Rattle.peg_replies.specs.Written.{PrintsInPart}
 use Rattle.peg_tool.specs.declared.report.Findings.{Findings}
 use Rattle.peg_tool.specs.declared.program.ProgramFault.{ProgramFault}
@@ -88,6 +89,8 @@ RequestOutcome (FilesRequest task g t) file_at input old new ended = (done : Res
 RequestOutcome (CoverRequest start memo steps needed g texts) file_at input old new ended =
     (found : Result Findings ProgramFault) × CoverageOutcome start memo steps needed g texts file_at old new found
     × (ended ≡ found_result found)
+RequestOutcome (CoverRecordsRequest g question) file_at input old new ended = (found : Result Findings ProgramFault)
+    × RecordCoverageOutcome question g file_at input old new found × (ended ≡ found_result found)
 RequestOutcome (ExplainRequest question printing) file_at input old new ended =
     (found : Result Findings ProgramFault) × ExplanationOutcome question printing file_at input old new found
     × (ended ≡ found_result found)

@@ -11,7 +11,7 @@ use Rattle.peg_cli.specs.declared.words.WordsFault.{WordsFault}
 use Rattle.peg_cli.specs.declared.words.WordsFault.TheVariants as words
 use Rattle.peg_tool.specs.CommandOutcome.{RequestOutcome}
 use Rattle.peg_tool.specs.Faults.{IsKind, device_message, record_streams, standard_input, stream_name}
-use Rattle.peg_tool.specs.Requests.{ToolRequest, InputRequest, HelpRequest, FileRequest, FilesRequest, CoverRequest, ExplainRequest, ExplainRecordsRequest, TestRequest, RecordsRequest}
+use Rattle.peg_tool.specs.Requests.{ToolRequest, InputRequest, HelpRequest, FileRequest, FilesRequest, CoverRequest, CoverRecordsRequest, ExplainRequest, ExplainRecordsRequest, TestRequest, RecordsRequest}
 use Rattle.peg_tool.specs.declared.exit.Exit.{Exit}
 use Rattle.peg_tool.specs.declared.exit.Exit.TheVariants.{Done, Reported, Usage, Device, Fault}
 use Rattle.peg_tool.specs.declared.fault.RequestFault.{RequestFault}
@@ -83,6 +83,8 @@ IsExitOfCause (FilesRequest task g t) file_at exit = (IsMissing (file_at g) → 
     × (is_readable (file_at t) ≡ true → IsExitNaming (shown_name g) exit)
 IsExitOfCause (CoverRequest start memo steps needed g texts) file_at exit =
     IsMissing (file_at g) → IsExitNaming (shown_name g) exit
+IsExitOfCause (CoverRecordsRequest g question) file_at exit = (IsMissing (file_at g) → IsExitNaming (shown_name g) exit)
+    × (is_readable (file_at g) ≡ true → IsExitAmong (record_streams question.texts) exit)
 IsExitOfCause (ExplainRequest question printing) file_at exit = Unit {0}
 IsExitOfCause (ExplainRecordsRequest question) file_at exit = IsExitAmong (record_streams question.texts) exit
 IsExitOfCause (TestRequest question) file_at exit = Unit {0}

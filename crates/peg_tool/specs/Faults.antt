@@ -4,7 +4,7 @@ use Rattle.std.specs.declared.io.ErrorKind.{ErrorKind}
 use Rattle.peg_io.specs.NamedFile.{NamedFile, IsMissing, is_readable}
 use Rattle.peg_io.specs.Reasons.{reason_of}
 use Rattle.peg_messages.specs.FileNames.{shown_name}
-use Rattle.peg_tool.specs.Requests.{ToolRequest, InputRequest, HelpRequest, FileRequest, FilesRequest, CoverRequest, ExplainRequest, ExplainRecordsRequest, TestRequest, RecordsRequest}
+use Rattle.peg_tool.specs.Requests.{ToolRequest, InputRequest, HelpRequest, FileRequest, FilesRequest, CoverRequest, CoverRecordsRequest, ExplainRequest, ExplainRecordsRequest, TestRequest, RecordsRequest}
 use Rattle.peg_tool.specs.declared.fault.RequestFault.{RequestFault}
 use Rattle.peg_tool.specs.declared.fault.RequestFault.TheVariants as failed
 use Rattle.peg_tool.specs.declared.fault.Stream.{Stream}
@@ -38,6 +38,7 @@ stream_names (FileRequest task g) = shown_name g ∷ standard_output ∷ []
 stream_names (FilesRequest task g t) = shown_name g ∷ shown_name t ∷ standard_output ∷ []
 stream_names (CoverRequest start memo steps needed g texts) =
     shown_name g ∷ map shown_name texts ++ standard_output ∷ []
+stream_names (CoverRecordsRequest g question) = shown_name g ∷ record_streams question.texts ++ standard_output ∷ []
 stream_names (ExplainRequest question printing) = standard_output ∷ []
 stream_names (ExplainRecordsRequest question) = record_streams question.texts ++ standard_output ∷ []
 stream_names (TestRequest question) = standard_output ∷ []
@@ -87,6 +88,8 @@ NamesCause (FilesRequest task g t) file_at it = (IsMissing (file_at g) → IsFau
     × (is_readable (file_at t) ≡ true → IsFaultAt (shown_name g) None it)
 NamesCause (CoverRequest start memo steps needed g texts) file_at it =
     IsMissing (file_at g) → IsFaultAt (shown_name g) None it
+NamesCause (CoverRecordsRequest g question) file_at it = (IsMissing (file_at g) → IsFaultAt (shown_name g) None it)
+    × (is_readable (file_at g) ≡ true → IsFaultAmong (record_streams question.texts) it)
 NamesCause (ExplainRequest question printing) file_at it = Unit {0}
 NamesCause (ExplainRecordsRequest question) file_at it = IsFaultAmong (record_streams question.texts) it
 NamesCause (TestRequest question) file_at it = Unit {0}

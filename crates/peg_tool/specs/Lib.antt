@@ -10,6 +10,7 @@ pub use Rattle.peg_coverage.specs.CoverageFaults
 pub use Rattle.peg_coverage.specs.Unused
 pub use Rattle.peg_coverage_files.specs.CoveringFaults
 pub use Rattle.peg_coverage_files.specs.NamedTexts
+pub use Rattle.peg_coverage_files.specs.RecordFaults as CoverFaults
 pub use Rattle.peg_diagnostics.specs.Marked
 pub use Rattle.peg_explain_files.specs.Entries
 pub use Rattle.peg_explain_files.specs.Explained
@@ -55,6 +56,9 @@ pub mod CoverageWritten
 pub mod Exits
 pub mod Explanations
 pub mod Faults
+pub mod PreparedCoverages
+pub mod RecordCoverage
+pub mod RecordCoverageWritten
 pub mod RecordFaults
 pub mod RecordResults
 pub mod RequestContract

@@ -10,7 +10,7 @@ use Rattle.peg_coverage.specs.declared.text_match.RequiredMatch.{RequiredMatch}
 use Rattle.peg_coverage.specs.declared.text_match.RequiredMatch.TheVariants.{Whole, Prefix}
 use Rattle.peg_io.specs.NamedFile.{NamedFile, IsMissing, is_readable}
 use Rattle.peg_cli.specs.declared.words.Words.{Words}
-use Rattle.peg_cli.specs.declared.words.Words.TheVariants.{Joined, Help, Table, Check, Code, Lint, Profile, Coverage, Explain, ExplainRecords, Test, Parse, Records}
+use Rattle.peg_cli.specs.declared.words.Words.TheVariants.{Joined, Help, Table, Check, Code, Lint, Profile, Coverage, RecordCoverage, Explain, ExplainRecords, Test, Parse, Records}
 use Rattle.peg_lint.specs.FileWarnings.{selection_of}
 use Rattle.peg_json.specs.TreeForms.{form_from_options}
 use Rattle.peg_records.specs.declared.end.RecordEnd.{RecordEnd}
@@ -21,10 +21,20 @@ use Rattle.peg_test_files.specs.TestQuestions.{TestQuestion}
 use Rattle.peg_replies.specs.PrintedNodes.{nodes_from_options}
 use Rattle.peg_replies.specs.Task.{ToolTask, TableTask, CheckTask, CodeTask, LintTask, ProfileTask, ParseTask}
 
+-- What is asked of the coverage of records: those of the texts with some names, or of the input without names. The
+-- other fields are those of a coverage of texts.
+pub record CoverQuestion : Type 0 where
+  pub texts : List (List ℕ)
+  pub end : RecordEnd
+  pub start : Option (List ℕ)
+  pub memo : ℕ
+  pub steps : Option ℕ
+  pub needed : RequiredMatch
+
 -- A request: the default task on a grammar file and a text from one input, a help text, a task on the grammar file with
--- a name, a task on a grammar file and a text with two names, what the texts with some names use of a grammar file, an
--- explanation of texts, an explanation of the records of texts, a test of the texts in folders, or a task on a grammar file and each record of texts with some
--- names, or of the input without names.
+-- a name, a task on a grammar file and a text with two names, what the texts with some names or their records use of a
+-- grammar file, an explanation of texts or of the records of texts, a test of the texts in folders, or a task on a grammar
+-- file and each record of texts with some names, or of the input without names.
 pub data ToolRequest : Type 0 where
   InputRequest : ToolRequest
   HelpRequest : (text : List ℕ) → ToolRequest
@@ -32,6 +42,7 @@ pub data ToolRequest : Type 0 where
   FilesRequest : (task : ToolTask) → (g t : List ℕ) → ToolRequest
   CoverRequest : (start : Option (List ℕ)) → (memo : ℕ) → (steps : Option ℕ) → (needed : RequiredMatch) → (g : List ℕ)
       → (texts : List (List ℕ)) → ToolRequest
+  CoverRecordsRequest : (g : List ℕ) → (question : CoverQuestion) → ToolRequest
   ExplainRequest : (question : Question) → (printing : Printing) → ToolRequest
   ExplainRecordsRequest : (question : RecordsQuestion) → ToolRequest
   TestRequest : (question : TestQuestion) → ToolRequest
@@ -69,6 +80,14 @@ requested (Profile g t start memo steps) =
 requested (Coverage g texts start memo steps prefix) =
     CoverRequest (option_map string_bytes start) memo steps (needed_of prefix) (string_bytes g)
     (map string_bytes texts.items)
+requested (RecordCoverage g texts null crlf start memo steps prefix) = CoverRecordsRequest (string_bytes g) record {
+  texts = map string_bytes texts.items;
+  end = end_of null crlf;
+  start = option_map string_bytes start;
+  memo = memo;
+  steps = steps;
+  needed = needed_of prefix;
+}
 requested (Explain g texts files_from null start memo steps rules terminals quiet) =
     ExplainRequest record {
       grammar = string_bytes g;
@@ -116,6 +135,7 @@ LacksGrammar (HelpRequest text) file_at = ⊥
 LacksGrammar (FileRequest task g) file_at = IsMissing (file_at g)
 LacksGrammar (FilesRequest task g t) file_at = IsMissing (file_at g)
 LacksGrammar (CoverRequest start memo steps needed g texts) file_at = IsMissing (file_at g)
+LacksGrammar (CoverRecordsRequest g question) file_at = IsMissing (file_at g)
 LacksGrammar (ExplainRequest question printing) file_at = ⊥
 LacksGrammar (ExplainRecordsRequest question) file_at = ⊥
 LacksGrammar (TestRequest question) file_at = ⊥
@@ -129,6 +149,7 @@ LacksText (HelpRequest text) file_at = ⊥
 LacksText (FileRequest task g) file_at = ⊥
 LacksText (FilesRequest task g t) file_at = IsMissing (file_at t)
 LacksText (CoverRequest start memo steps needed g texts) file_at = ⊥
+LacksText (CoverRecordsRequest g question) file_at = ⊥
 LacksText (ExplainRequest question printing) file_at = ⊥
 LacksText (ExplainRecordsRequest question) file_at = ⊥
 LacksText (TestRequest question) file_at = ⊥
@@ -143,6 +164,8 @@ HasReadableFiles (FileRequest task g) file_at = is_readable (file_at g) ≡ true
 HasReadableFiles (FilesRequest task g t) file_at = (is_readable (file_at g) ≡ true) × (is_readable (file_at t) ≡ true)
 HasReadableFiles (CoverRequest start memo steps needed g texts) file_at =
     (is_readable (file_at g) ≡ true) × All (λ text. is_readable (file_at text) ≡ true) texts
+HasReadableFiles (CoverRecordsRequest g question) file_at =
+    (is_readable (file_at g) ≡ true) × All (λ text. is_readable (file_at text) ≡ true) question.texts
 HasReadableFiles (ExplainRequest question printing) file_at = ⊥
 HasReadableFiles (ExplainRecordsRequest question) file_at =
     All (λ text. is_readable (file_at text) ≡ true) question.texts
@@ -159,6 +182,7 @@ IsExplainRequest (HelpRequest text) = ⊥
 IsExplainRequest (FileRequest task g) = ⊥
 IsExplainRequest (FilesRequest task g t) = ⊥
 IsExplainRequest (CoverRequest start memo steps needed g texts) = ⊥
+IsExplainRequest (CoverRecordsRequest g question) = ⊥
 IsExplainRequest (ExplainRequest question printing) = Unit {0}
 IsExplainRequest (ExplainRecordsRequest question) = ⊥
 IsExplainRequest (TestRequest question) = ⊥
@@ -171,6 +195,7 @@ IsTestRequest (HelpRequest text) = ⊥
 IsTestRequest (FileRequest task g) = ⊥
 IsTestRequest (FilesRequest task g t) = ⊥
 IsTestRequest (CoverRequest start memo steps needed g texts) = ⊥
+IsTestRequest (CoverRecordsRequest g question) = ⊥
 IsTestRequest (ExplainRequest question printing) = ⊥
 IsTestRequest (ExplainRecordsRequest question) = ⊥
 IsTestRequest (TestRequest question) = Unit {0}
@@ -185,6 +210,7 @@ ReadsInput (HelpRequest text) = ⊥
 ReadsInput (FileRequest task g) = ⊥
 ReadsInput (FilesRequest task g t) = ⊥
 ReadsInput (CoverRequest start memo steps needed g texts) = ⊥
+ReadsInput (CoverRecordsRequest g question) = question.texts ≡ []
 ReadsInput (ExplainRequest question printing) = IsInput question.list
 ReadsInput (ExplainRecordsRequest question) = question.texts ≡ []
 ReadsInput (TestRequest question) = ⊥
@@ -193,6 +219,7 @@ ReadsInput (RecordsRequest task g texts end filter) = texts ≡ []
 -- whether a failed read of the input ends a request; an explanation reports it itself
 abbrev pub EndsWithInput : ToolRequest → Type 0
 EndsWithInput InputRequest = Unit {0}
+EndsWithInput (CoverRecordsRequest g question) = Unit {0}
 EndsWithInput (ExplainRecordsRequest question) = Unit {0}
 EndsWithInput (RecordsRequest task g texts end filter) = Unit {0}
 EndsWithInput other = ⊥

@@ -98,8 +98,8 @@ fn cover_by_file<'a, O: Opener>(
     }
 }
 
-// A line for the output, and nothing for standard error.
-fn line_alone(alloc: Global, line: Line) -> CoverageReply
+/// Returns a line for the output, and nothing for standard error.
+pub(crate) fn line_alone(alloc: Global, line: Line) -> CoverageReply
     ensures line { result.line ≡ line }
     ensures faults { string_bytes result.faults ≡ [] }
 {
@@ -182,6 +182,7 @@ fn cover_by_parser<'a, O: Opener>(
             stream: Stream::File(name),
             kind,
         }),
+        Err(CoveringFault::Input) => unreachable!(),
         Err(CoveringFault::Memory) => Err(RequestFault::Memory),
     }
 }
@@ -224,8 +225,12 @@ fn stopped_text_lines(
     Ok(lines)
 }
 
-// Appends the line for the text with this name.
-fn push_stopped_line(alloc: Global, name: &str, lines: &mut String) -> Result<(), AllocError>
+/// Appends the line for the stopped text with this name.
+pub(crate) fn push_stopped_line(
+    alloc: Global,
+    name: &str,
+    lines: &mut String,
+) -> Result<(), AllocError>
     ensures { OnOk result (string_bytes lines.new ≡ string_bytes lines.old ++ stopped_line name.now) }
 {
     let shown = shown_name(alloc, name.as_bytes())?;

@@ -30,7 +30,7 @@ pub enum Exit {
     /// The output is written, and this is the exit status.
     Done { status: u8 },
     /// The output is written, and this is the exit status. `faults` has a line for each file that can't be opened or
-    /// read, or for each text whose parse was stopped.
+    /// read, or for each text or record whose parse was stopped.
     Reported { status: u8, faults: String },
     /// The arguments are not a valid command line. `text` says what is wrong.
     Usage { text: String },

@@ -2,9 +2,11 @@
 #![tactic(auto)]
 
 mod covering;
+mod covering_records;
 mod exit;
 mod explaining;
 mod fault;
+mod prepare_coverage;
 mod program;
 mod record_messages;
 mod records;
@@ -15,6 +17,7 @@ mod write;
 
 pub use exit::{Exit, read_args, run_program};
 pub use peg_cli::{Words, WordsFault, read_words};
+pub use peg_coverage_files::CoverQuery;
 pub use peg_explain_files::{ItemStyle, NameEnd, Printing, Query};
 pub use peg_explain_records::ExplainRecordsQuery;
 pub use peg_io::{Device, DeviceFault, FileSystem, OpenFault, Opener, Sink, Source, split};

@@ -17,6 +17,7 @@ ghost use Rattle.peg_tool.specs.CoverageOutcome.{CoverageOutcome};
 ghost use Rattle.peg_replies.specs.Task.{HasText};
 
 use crate::covering::{coverage_reply, write_coverage};
+use crate::covering_records::on_record_coverage;
 use crate::explaining::explain;
 use crate::fault::{RequestFault, Stream};
 use crate::record_messages::explain_each_record;
@@ -153,6 +154,9 @@ pub(crate) fn run_request<'a, O: Opener, I: Source, W: Sink>(
             options,
             needed,
         } => { Ok(Report::Found(on_texts(alloc, files, output, g, texts, &options, needed)?)) }
+        Request::CoverRecords { g, query } => {
+            Ok(Report::Found(on_record_coverage(alloc, files, input, output, g, &query)?))
+        }
         Request::Explain { query, printing } => {
             Ok(Report::Found(explain(alloc, files, input, output, &query, printing)?))
         }

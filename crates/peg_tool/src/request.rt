@@ -6,11 +6,12 @@ ghost use Rattle.peg_parser.specs.Parser.{start_named};
 ghost use Rattle.peg_replies.specs.Commands.{task_of};
 ghost use Rattle.peg_tool.specs.Requests.{CoverRequest, FileRequest, IsExplainRequest, TestRequest, end_of, filter_of, needed_of, requested};
 ghost use Rattle.peg_replies.specs.Task.{LintTask};
-ghost use Rattle.peg_tool.specs.WordRequests.{IsExplainRecordsWords, IsParseWords, IsRecordsWords, request_of};
+ghost use Rattle.peg_tool.specs.WordRequests.{IsExplainRecordsWords, IsParseWords, IsRecordCoverageWords, IsRecordsWords, request_of};
 
 use crate::records::RecordsParse;
 use peg_cli::Words;
 use peg_coverage::RequiredMatch;
+use peg_coverage_files::CoverQuery;
 use peg_explain_files::{ItemStyle, NameEnd, Printing, Query};
 use peg_explain_records::ExplainRecordsQuery;
 use peg_json::TreeForm;
@@ -46,6 +47,11 @@ pub enum Request<'a> {
         texts: &'a [String],
         options: ParseOptions<'a>,
         needed: RequiredMatch,
+    },
+    /// Prints what the records of texts use of the grammar file with name `g`.
+    CoverRecords {
+        g: &'a str,
+        query: CoverQuery<'a>,
     },
     /// Explains where texts don't match a grammar file.
     Explain {
@@ -103,6 +109,7 @@ impl<'a> Request<'a> {
                 let options = ParseOptions { start, memo, steps };
                 request_coverage(g, texts, options, *prefix)
             }
+            Words::RecordCoverage { .. } => request_record_coverage(words),
             Words::Explain { .. } => request_explanation(words),
             Words::ExplainRecords { .. } => request_explained_records(words),
             Words::Test {
@@ -154,6 +161,34 @@ fn request_coverage<'a>(
         options,
         needed: required_match(prefix),
     }
+}
+
+// Requests what the records of texts use of a grammar file.
+fn request_record_coverage(words: &Words) -> Request<'_>
+    requires { IsRecordCoverageWords words.now }
+    ensures { request_of result ≡ requested words.now }
+{
+    let Words::RecordCoverage {
+        g,
+        texts,
+        null,
+        crlf,
+        start,
+        memo,
+        steps,
+        prefix,
+    } = words
+    else {
+        unreachable!()
+    };
+    let (start, memo, steps) = (start.as_deref(), *memo, *steps);
+    let query = CoverQuery {
+        texts,
+        end: record_end(*null, *crlf),
+        options: ParseOptions { start, memo, steps },
+        needed: required_match(*prefix),
+    };
+    Request::CoverRecords { g, query }
 }
 
 // How much of a text has to match.

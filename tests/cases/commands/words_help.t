@@ -46,8 +46,8 @@ The help of lint has its options and an example with a start.
 The help of profile has several texts, the option for coverage and the defaults: that of the memo depends on it.
 
   $ pegtool profile --help > h
-  $ grep -o -e 'Usage: pegtool profile \[OPTIONS] <G> <T>\.\.\.' -e '  --coverage' -e '  --prefix' -e '\[default: 0, with --coverage 4096]' h
-  Usage: pegtool profile [OPTIONS] <G> <T>...
+  $ grep -o -e 'Usage: pegtool profile \[OPTIONS] <G> \[T]\.\.\.' -e '  --coverage' -e '  --prefix' -e '\[default: 0, with --coverage 4096]' h
+  Usage: pegtool profile [OPTIONS] <G> [T]...
     --coverage
     --prefix
   [default: 0, with --coverage 4096]

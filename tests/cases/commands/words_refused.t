@@ -290,6 +290,27 @@ A prefix counts for the coverage alone. The line and the list after it are clap'
   error: the following required arguments were not provided:
     --coverage
 
+Records count for the coverage alone, and how they end for records alone.
+
+  $ pegtool profile g t --lines > o 2> e
+  [3]
+  $ cat o; grep -o -e '^error: .*' -e '^  --coverage' e
+  error: the following required arguments were not provided:
+    --coverage
+  $ pegtool profile g t --coverage --null 2> e
+  [3]
+  $ grep -o -e '^  --lines' e
+    --lines
+  $ pegtool profile g t --coverage --crlf 2> e
+  [3]
+  $ grep -o -e '^  --lines' e
+    --lines
+  $ pegtool profile g t --coverage --lines --null --crlf 2> e
+  [3]
+  $ grep -o -e 'cannot be used with' -e 'pegtool [a-z]* --help' e
+  cannot be used with
+  pegtool profile --help
+
 An explanation needs a grammar file, with any of the other options, too.
 
   $ pegtool explain 2> e

@@ -7,7 +7,7 @@ use Rattle.peg_io.specs.NamedFile.{bytes_of}
 use Rattle.peg_record_files.specs.RecordReplies.{worse_outcome}
 use Rattle.peg_record_files.specs.Streams.{bytes_of_streams}
 use Rattle.peg_record_files.specs.declared.outcome.RecordOutcome.{RecordOutcome}
-use Rattle.peg_record_files.proofs.FileLemmas.{names-more}
+use Rattle.peg_record_files.proofs.StreamLemmas.{names-more}
 use Rattle.peg_explain_records.specs.Questions.{question_of}
 use Rattle.peg_explain_records.specs.RecordMessages.{WritesMessages, setting_of}
 use Rattle.peg_explain_records.proofs.MessageLemmas.{fault-wider, messages-added, messages-none, messages-part, name-among, names-with, one-some, one-text, streams-named}

@@ -2,8 +2,7 @@ use Rattle.std.proofs.Common.{◌≡◌, ℕ, List, [], ap, arith, map, string_b
 use Rattle.std.proofs.lemmas.Grind.{common_steps}
 use Rattle.peg_records.specs.Records.{records}
 use Rattle.peg_record_files.specs.Runs.{LeadsTo}
-use Rattle.peg_record_files.proofs.FileLemmas.{input-stream}
-use Rattle.peg_record_files.proofs.RunLemmas.{known}
+use Rattle.peg_record_files.proofs.StreamLemmas.{input-stream, known}
 use Rattle.peg_record_files.proofs.files.write_all.Goals as goal
 
 pub returns-then-is_empty-clause-leads : goal.returns-then-is_empty-clause-leads

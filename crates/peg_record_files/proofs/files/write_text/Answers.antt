@@ -1,6 +1,7 @@
 use Rattle.peg_records.specs.Records.{records}
-use Rattle.peg_record_files.proofs.FileLemmas.{any-known, fault-of-open, opened-known}
+use Rattle.peg_record_files.proofs.FileLemmas.{fault-of-open}
 use Rattle.peg_record_files.proofs.ReplyLemmas.{part-none}
+use Rattle.peg_record_files.proofs.StreamLemmas.{any-known, opened-known}
 use Rattle.peg_record_files.proofs.files.write_text.Goals as goal
 
 pub returns-in-Ok-clause-leads : goal.returns-in-Ok-clause-leads

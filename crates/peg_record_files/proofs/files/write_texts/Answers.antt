@@ -5,7 +5,8 @@ use Rattle.std.specs.List.{flat_map}
 use Rattle.peg_io.specs.NamedFile.{bytes_of}
 use Rattle.peg_records.specs.Records.{records}
 use Rattle.peg_record_files.specs.Runs.{AddsPart, AddsReplies}
-use Rattle.peg_record_files.proofs.FileLemmas.{leads-error, names-around, names-more, texts-added, texts-none, texts-part}
+use Rattle.peg_record_files.proofs.FileLemmas.{leads-error, texts-added, texts-none, texts-part}
+use Rattle.peg_record_files.proofs.StreamLemmas.{names-around, names-more}
 use Rattle.peg_record_files.proofs.files.write_texts.Goals as goal
 
 pub names-init : goal.names-init

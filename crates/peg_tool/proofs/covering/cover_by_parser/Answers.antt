@@ -1,5 +1,5 @@
 use Rattle.std.proofs.Common.{◌≡◌, ◌∙◌, ℕ, Err, List, ap, map, refl, string_bytes, sym, subst}
-use Rattle.peg_coverage_files.proofs.CoveringLemmas.{some-of}
+use Rattle.peg_coverage_files.proofs.CoveringLemmas.{some-of, unused-below}
 use Rattle.peg_coverage_files.specs.NamedTexts.{files_named}
 use Rattle.peg_grammar.specs.GrammarRules.{rules_in}
 use Rattle.peg_parser.specs.Parser.{start_named}
@@ -13,7 +13,7 @@ use Rattle.peg_json.specs.Statuses.{status_code}
 use Rattle.peg_json.proofs.ParseLemmas.{start-given}
 use Rattle.peg_parser.specs.Cause.{NoSuchStart, TextTooLong}
 use Rattle.peg_replies.specs.CoverageReplies.{CoversTo, a_text_over_limit, start_unknown}
-use Rattle.peg_tool.proofs.CoverageLemmas.{coverage-replies, first-file, line-alone, stopped-named, unused-below}
+use Rattle.peg_tool.proofs.CoverageLemmas.{coverage-replies, first-file, line-alone, stopped-named}
 use Rattle.peg_replies.proofs.ParsedLines.{given-name}
 use Rattle.peg_tool.proofs.covering.cover_by_parser.Goals as goal
 

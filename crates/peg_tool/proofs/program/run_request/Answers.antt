@@ -7,6 +7,7 @@ use Rattle.peg_tool.specs.RequestContract.{EndsAs}
 use Rattle.peg_tool.specs.Requests.{ToolRequest}
 use Rattle.peg_tool.specs.declared.report.Report.TheVariants as report
 use Rattle.peg_tool.proofs.CoverageLemmas.{at-among, first-among}
+use Rattle.peg_tool.proofs.RecordCoverageLemmas.{cover-request-end}
 use Rattle.peg_tool.proofs.RecordsLemmas.{explained-end, passed-fault, request-end}
 use Rattle.peg_tool.proofs.ReportLemmas.{done-fault, done-status, found-fault, found-findings, passed-among}
 use Rattle.peg_tool.proofs.program.run_request.Goals as goal
@@ -223,3 +224,48 @@ returns-in_err-on_records-in-Records-clause-named g c =
     subst (λ (r : ToolRequest). IfErr passed.result (IsFaultAmong (stream_names r))) c.in-Records.ensures
     (passed-among (shown_name c.in-Records.g.now ∷ streams ++ standard_output ∷ []) _ passed.result
     c.in_err-on_records-in-Records.ensures.named passed.ensures.1)
+
+pub returns-in_err-on_record_coverage-in-CoverRecords-clause-leads : goal.returns-in_err-on_record_coverage-in-CoverRecords-clause-leads
+returns-in_err-on_record_coverage-in-CoverRecords-clause-leads g c =
+    let passed = c.from_residual-in_err-on_record_coverage-in-CoverRecords in
+    subst (λ (r : ToolRequest). RequestOutcome r (g.O.Opener.file_at c.args.files.now) (g.I.Source.left c.args.input.now)
+    (g.W.Sink.written c.args.output.now) (g.W.Sink.written c.on_record_coverage.new.output) (plain_result passed.result))
+    c.in-CoverRecords.ensures (
+      plain_result c.on_record_coverage.result,
+      c.on_record_coverage.ensures.leads,
+      found-fault c.on_record_coverage.result _ passed.result c.in_err-on_record_coverage-in-CoverRecords.was
+          passed.ensures.1,
+    )
+
+pub returns-in_ok-on_record_coverage-in-CoverRecords-clause-leads : goal.returns-in_ok-on_record_coverage-in-CoverRecords-clause-leads
+returns-in_ok-on_record_coverage-in-CoverRecords-clause-leads g c =
+    let it = report.Found c.in_ok-on_record_coverage-in-CoverRecords.field-0 in
+    subst (λ (r : ToolRequest). RequestOutcome r (g.O.Opener.file_at c.args.files.now) (g.I.Source.left c.args.input.now)
+    (g.W.Sink.written c.args.output.now) (g.W.Sink.written c.on_record_coverage.new.output) (Ok it))
+    c.in-CoverRecords.ensures (
+      plain_result c.on_record_coverage.result,
+      c.on_record_coverage.ensures.leads,
+      found-findings c.on_record_coverage.result _ c.in_ok-on_record_coverage-in-CoverRecords.was,
+    )
+
+pub returns-in_err-on_record_coverage-in-CoverRecords-clause-ends : goal.returns-in_err-on_record_coverage-in-CoverRecords-clause-ends
+returns-in_err-on_record_coverage-in-CoverRecords-clause-ends g c =
+    let passed = c.from_residual-in_err-on_record_coverage-in-CoverRecords in
+    let ended = c.on_record_coverage in
+    let holds = ended.ensures in
+    let fault = result_err (plain_result passed.result) in
+    subst (λ (r : ToolRequest). EndsAs r (g.O.Opener.file_at c.args.files.now) fault
+    (g.I.Source.failed ended.new.input) (g.W.Sink.failed ended.new.output) (ended.new.input ≡ c.args.input.now)
+    (ended.new.output ≡ c.args.output.now) (g.W.Sink.written c.args.output.now) (g.W.Sink.written ended.new.output))
+    c.in-CoverRecords.ensures
+    (cover-request-end _ _ _ _ _ _ _ _ _ ended.result fault
+    (passed-fault ended.result _ passed.result c.in_err-on_record_coverage-in-CoverRecords.was passed.ensures.1)
+    holds.unread holds.no_grammar holds.device_fault holds.read_fault holds.write_fault holds.memory)
+
+pub returns-in_err-on_record_coverage-in-CoverRecords-clause-named : goal.returns-in_err-on_record_coverage-in-CoverRecords-clause-named
+returns-in_err-on_record_coverage-in-CoverRecords-clause-named g c =
+    let passed = c.from_residual-in_err-on_record_coverage-in-CoverRecords in
+    let streams = record_streams (map string_bytes c.in-CoverRecords.query.texts.now) in
+    subst (λ (r : ToolRequest). IfErr passed.result (IsFaultAmong (stream_names r))) c.in-CoverRecords.ensures
+    (passed-among (shown_name c.in-CoverRecords.g.now ∷ streams ++ standard_output ∷ []) _ passed.result
+    c.in_err-on_record_coverage-in-CoverRecords.ensures.named passed.ensures.1)

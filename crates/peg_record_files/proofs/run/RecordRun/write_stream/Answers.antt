@@ -5,7 +5,8 @@ use Rattle.peg_records.specs.Records.{records}
 use Rattle.peg_record_files.specs.Faults.{read_fault}
 use Rattle.peg_record_files.specs.Runs.{AddsFirst, AddsPart, LeadsTo}
 use Rattle.peg_record_files.specs.declared.run.RecordRun.{RecordRun}
-use Rattle.peg_record_files.proofs.RunLemmas.{first-as-part, first-none, first-part, first-trans-read, if-known, known, leads-in-part, leads-last-read, read-on, some-self}
+use Rattle.peg_record_files.proofs.RunLemmas.{first-as-part, first-none, first-part, first-trans-read, leads-in-part, leads-last-read}
+use Rattle.peg_record_files.proofs.StreamLemmas.{if-known, known, read-on, some-self}
 use Rattle.peg_record_files.proofs.run.RecordRun.write_stream.Goals as goal
 
 pub blocks-2-init : goal.blocks-2-init
