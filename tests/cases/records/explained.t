@@ -198,5 +198,5 @@ A list of names and records exclude each other, and --crlf needs records.
   1
   $ pegtool explain g t --crlf 2> e
   [3]
-  $ grep -c -e '--lines' e
+  $ grep -c -e '^  --lines' e
   1
