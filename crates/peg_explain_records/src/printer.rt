@@ -38,7 +38,7 @@ impl RecordPrinter for RecordExplainer<'_> {
     }
 
     fn push_line(
-        &self,
+        &mut self,
         alloc: Global,
         place: RecordPlace,
         given: &[u8],

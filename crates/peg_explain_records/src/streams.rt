@@ -114,7 +114,7 @@ fn explain_named<'a, O: Opener, I: Source, W: Sink>(
     ensures unread { texts.now ≢ [] → input.new ≡ input.old }
 {
     let called = shown_name(alloc, name)?;
-    let printer = RecordExplainer {
+    let mut printer = RecordExplainer {
         explainer,
         options: &query.options,
         printing: query.printing,
@@ -126,7 +126,7 @@ fn explain_named<'a, O: Opener, I: Source, W: Sink>(
         end: query.end,
         filter: RecordFilter::All,
     };
-    write_records(alloc, files, input, output, &printer, &records)
+    write_records(alloc, files, input, output, &mut printer, &records)
 }
 
 // The name of the input in messages.

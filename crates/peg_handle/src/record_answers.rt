@@ -5,15 +5,16 @@ ghost use Rattle.peg_handle.specs.Nodes.{match_nodes};
 ghost use Rattle.peg_handle.specs.RecordTasks.{AddsAnswer, IsUnanswered, task_parse, task_rules};
 ghost use Rattle.peg_handle.specs.Records.{IsRecordResult, answered_record, is_in_text, match_status, node_room};
 ghost use Rattle.peg_handle.specs.Starts.{start_of_bytes};
+ghost use Rattle.peg_parser.specs.Sessions.{IsSessionOf};
 ghost use Rattle.peg_semantics.specs.Starts.{start_name};
 
 use crate::content::Match;
 use crate::nodes::{Node, append_nodes};
 use crate::records::{RecordTask, TextRecord};
-use crate::selecting::parse_selecting;
+use crate::selecting::parse_by_session;
 use crate::status::{DONE, FAILED, OUT_OF_RANGE, STEP_LIMIT, TEXT_TOO_LONG};
 use crate::summary::summary_of;
-use peg_parser::ParseFault;
+use peg_parser::{ParseFault, Session};
 use peg_tree::Parsed;
 use std::alloc::{AllocError, Global};
 
@@ -30,6 +31,7 @@ pub(crate) enum Unanswered {
 pub(crate) fn answer_record(
     alloc: Global,
     task: &RecordTask<'_>,
+    session: &mut Session<'_>,
     given: TextRecord,
     used: u32,
     nodes: &mut [Node],
@@ -37,11 +39,13 @@ pub(crate) fn answer_record(
     requires start { (name : List ℕ)
         × (start_name (task_rules task.now) (start_of_bytes task.now.start.now) ≡ Some name) }
     requires used { used ≤ node_room (length nodes.old) }
+    requires session { IsSessionOf task.now.selecting.now.parser session.old }
     ensures answered { IfOk result (AddsAnswer (task_parse task.now) given used nodes.old nodes.new) }
     ensures unanswered { IfErr result (IsUnanswered (task_parse task.now) given (length nodes.old) used) }
     ensures unchanged { OnErr result (nodes.new ≡ nodes.old) }
+    ensures session { IsSessionOf task.now.selecting.now.parser session.new }
 {
-    match parse_record(alloc, task, given) {
+    match parse_record(alloc, task, session, given) {
         Ok(Ok(found)) => write_answer(given, &found, used, nodes),
         Ok(Err(status)) => Ok(TextRecord {
             status,
@@ -59,18 +63,22 @@ pub(crate) fn answer_record(
 fn parse_record(
     alloc: Global,
     task: &RecordTask<'_>,
+    session: &mut Session<'_>,
     given: TextRecord,
 ) -> Result<Result<Match, u32>, AllocError>
-    requires { (name : List ℕ) × (start_name (task_rules task.now) (start_of_bytes task.now.start.now) ≡ Some name) }
-    ensures { IfOk result (IsRecordResult (task_parse task.now) given) }
+    requires start { (name : List ℕ) × (start_name (task_rules task.now) (start_of_bytes task.now.start.now) ≡ Some name) }
+    requires session { IsSessionOf task.now.selecting.now.parser session.old }
+    ensures result { IfOk result (IsRecordResult (task_parse task.now) given) }
+    ensures session { IsSessionOf task.now.selecting.now.parser session.new }
 {
     if !is_in_text(task.text, given) {
         return Ok(Err(OUT_OF_RANGE));
     }
     let bytes = &task.text[given.start as usize..given.end as usize];
-    match parse_selecting(
+    match parse_by_session(
         alloc,
         task.selecting,
+        session,
         bytes,
         task.start,
         task.memo,

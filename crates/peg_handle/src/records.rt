@@ -59,6 +59,9 @@ pub struct RecordTask<'a> {
 ///
 /// It stops before the first record for whose nodes there is no room. It stops, too, if an allocation fails, and
 /// returns `Memory` only if no record was parsed. So another call can parse the records that are left.
+///
+/// What the machine has computed for one record serves the later ones of the call, so a call with many records is faster
+/// than many calls.
 pub fn parse_records(
     alloc: Global,
     task: &RecordTask<'_>,
@@ -73,9 +76,10 @@ pub fn parse_records(
     ensures kept_nodes { OnErr result (nodes.new ≡ nodes.old) }
 {
     let _start = start_from(task.selecting.parser.grammar(), task.start)?;
+    let mut session = task.selecting.parser.session(alloc);
     let mut used: u32 = 0;
     'records: for i in 0..records.len() {
-        match answer_record(alloc, task, records[i], used, nodes) {
+        match answer_record(alloc, task, &mut session, records[i], used, nodes) {
             Ok(answered) => {
                 records[i] = answered;
                 used += answered.nodes;

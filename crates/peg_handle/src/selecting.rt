@@ -1,5 +1,5 @@
 //! Parses whose trees have the nodes of chosen rules.
-ghost use Rattle.std.specs.Prelude.{◌≡◌, ◌≤◌, ◌<◌, ℕ, All, IfErr, IfOk, List, length, map, Some};
+ghost use Rattle.std.specs.Prelude.{◌≡◌, ◌≤◌, ◌<◌, ℕ, All, IfErr, IfOk, List, length, map, None, Some};
 ghost use Rattle.peg_grammar.specs.GrammarRules.{rules_in};
 ghost use Rattle.peg_handle.specs.Answers.{IsSelectedAnswerTo};
 ghost use Rattle.peg_handle.specs.FileSpans.{file_span};
@@ -9,8 +9,9 @@ ghost use Rattle.peg_handle.specs.Starts.{start_of_bytes, step_limit};
 ghost use Rattle.peg_json.specs.Parses.{extents_at};
 ghost use Rattle.peg_parser.specs.Accepts.{Accepts};
 ghost use Rattle.peg_parser.specs.Engine.{rules_shown, shown_parser_rules};
-ghost use Rattle.peg_parser.specs.ParseContract.{HasParseFaults, HasStepLimit};
-ghost use Rattle.peg_parser.specs.Parser.{parser_rules};
+ghost use Rattle.peg_parser.specs.ParseContract.{HasParseFaults, HasStepLimit, IsParse};
+ghost use Rattle.peg_parser.specs.Parser.{parser_rules, start_named};
+ghost use Rattle.peg_parser.specs.Sessions.{IsSessionOf};
 ghost use Rattle.peg_semantics.specs.Rules.{Rule};
 ghost use Rattle.peg_semantics.specs.Terminals.{extents_of_terminals};
 ghost use Rattle.peg_tree.specs.Selected.{has_rule};
@@ -21,7 +22,7 @@ use crate::reading::{ReadFault, read};
 use crate::start::{limit_from, start_from};
 use peg_core::desugar;
 use peg_grammar::Grammar;
-use peg_parser::{Answer, ParseFault, ParseOptions, Parser};
+use peg_parser::{Answer, ParseFault, ParseOptions, Parser, Session};
 use peg_tree::RuleSet;
 use std::alloc::{AllocError, Global};
 
@@ -110,16 +111,54 @@ pub fn parse_selecting(
     ensures limit { HasStepLimit (shown_parser_rules selecting.now.parser) text.now (start_of_bytes start.now) (memo ≡ 0)
         (step_limit steps) result }
 {
-    let parser = &selecting.parser;
-    let start = start_from(parser.grammar(), start)?;
+    let mut session = selecting.parser.session(alloc);
+    parse_by_session(alloc, selecting, &mut session, text, start, memo, steps)
+}
+
+/// Parses a prefix of a text as `parse_selecting` does, by a session of the parser.
+pub(crate) fn parse_by_session(
+    alloc: Global,
+    selecting: &SelectingParser,
+    session: &mut Session<'_>,
+    text: &[u8],
+    start: &[u8],
+    memo: u32,
+    steps: u64,
+) -> Result<Match, ParseFault>
+    requires { IsSessionOf selecting.now.parser session.old }
+    ensures answer { IfOk result (IsSelectedAnswerTo (rules_shown selecting.now.parser)
+        (shown_parser_rules selecting.now.parser) text.now start.now memo) }
+    ensures faults { HasParseFaults (shown_parser_rules selecting.now.parser) text.now (start_of_bytes start.now) result }
+    ensures allowed { IfOk result (λ found. (limit : ℕ) → step_limit steps ≡ Some limit → found.answer.steps ≤ limit) }
+    ensures limit { HasStepLimit (shown_parser_rules selecting.now.parser) text.now (start_of_bytes start.now) (memo ≡ 0)
+        (step_limit steps) result }
+    ensures session { IsSessionOf selecting.now.parser session.new }
+{
+    let start = start_from(selecting.parser.grammar(), start)?;
     let options = ParseOptions {
         start,
         memo,
         steps: limit_from(steps),
     };
-    let answer = parser.parse(alloc, text, &options)?;
+    let answer = parse_next(alloc, selecting, session, text, &options)?;
     let found = selected_match(alloc, &selecting.terminals, answer)?;
     Ok(found)
+}
+
+// Parses a prefix of a text as the parser does, by a session of it.
+fn parse_next(
+    alloc: Global,
+    selecting: &SelectingParser,
+    session: &mut Session<'_>,
+    text: &[u8],
+    options: &ParseOptions<'_>,
+) -> Result<Answer, ParseFault>
+    requires { IsSessionOf selecting.now.parser session.old }
+    ensures parse { IsParse (rules_shown selecting.now.parser) None (shown_parser_rules selecting.now.parser) text.now
+        (start_named options.now) (options.now.memo ≡ 0) options.now.steps result }
+    ensures session { IsSessionOf selecting.now.parser session.new }
+{
+    session.parse(alloc, text, options)
 }
 
 // The answer of a parser, with the spans of the expected terminals and the levels of the nodes. `terminals` has the

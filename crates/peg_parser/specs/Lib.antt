@@ -37,5 +37,6 @@ pub mod ProgramOf
 pub mod ReadsByFigure
 pub mod Refusals
 pub mod SelectedOutcomes
+pub mod Sessions
 pub mod ShowsNone
 pub mod StepLimits

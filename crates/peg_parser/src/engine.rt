@@ -12,7 +12,7 @@ ghost use Rattle.peg_grammar.specs.GrammarRules.{rules_in};
 ghost use Rattle.peg_grammar.specs.Limits.{max_text_bytes};
 ghost use Rattle.peg_semantics.specs.Terminals.{extents_of_terminals};
 ghost use Rattle.peg_semantics.specs.WellFormed.{IsWellFormedGrammar};
-ghost use Rattle.peg_machine.specs.RunContract.{NeverStores};
+ghost use Rattle.peg_machine.specs.RunContract.{IsRun, NeverStores};
 ghost use Rattle.peg_machine.specs.SelectedTests.{listed};
 ghost use Rattle.peg_machine.specs.Traced.{GetsCalls};
 ghost use Rattle.peg_semantics.specs.Record.{RuleCall};
@@ -23,7 +23,7 @@ use crate::refusal::Refusal;
 use peg_bytes::Span;
 use peg_code::Program;
 use peg_grammar::{Grammar, MAX_TEXT_BYTES};
-use peg_machine::{Answer, NoWatch, RunFault, Watch, run_in_store};
+use peg_machine::{Answer, NoWatch, RunFault, Runner, Watch};
 use peg_memo::{CopiedNodes, NoMemo, NodeStore};
 use peg_memo_policy::{RerunCosts, SelectiveStore};
 use peg_tree::RuleSet;
@@ -130,6 +130,13 @@ impl Engine {
         self.program.terminal_span(terminal)
     }
 
+    /// Returns a runner of the code, before its first run.
+    pub(crate) fn runner(&self, alloc: Global) -> Runner<'_>
+        ensures { result.program.now ≡ self.now.program }
+    {
+        Runner::new(alloc, &self.program)
+    }
+
     /// Parses a text, first without the memo. The furthest failure is that of the terminals in `among`, or of all.
     pub(crate) fn parse_selecting(
         &self,
@@ -142,14 +149,49 @@ impl Engine {
         ensures parse { IsParse (shown_in self.now) (listed among.entry) (engine_rules self.now) text.now
             (start_named options.now) (options.now.memo ≡ 0) options.now.steps result }
     {
+        let mut runner = self.runner(alloc);
+        self.parse_next(alloc, &mut runner, text, options, among)
+    }
+
+    /// Parses a text as `parse_selecting` does. The runs without a memo are those of a runner.
+    pub(crate) fn parse_next(
+        &self,
+        alloc: Global,
+        runner: &mut Runner<'_>,
+        text: &[u8],
+        options: &ParseOptions<'_>,
+        among: Option<&[u32]>,
+    ) -> Result<Answer, ParseFault>
+        requires ascending { ForSome among (λ terminals. IsStrictlyIncreasing terminals.now) }
+        requires program { runner.old.program.now ≡ self.now.program }
+        ensures parse { IsParse (shown_in self.now) (listed among.entry) (engine_rules self.now) text.now
+            (start_named options.now) (options.now.memo ≡ 0) options.now.steps result }
+        ensures program { runner.new.program.now ≡ runner.old.program.now }
+    {
         let Some(start) = self.start(options) else {
             return Err(ParseFault::NoSuchStart);
         };
         if options.memo == 0 || text.len() > MAX_TEXT_BYTES {
-            return self.answer_plain(alloc, text, start, among, &mut NoWatch, options.steps);
+            return self.answer_plain(
+                runner,
+                alloc,
+                text,
+                start,
+                among,
+                &mut NoWatch,
+                options.steps,
+            );
         }
         let plain_steps = plain_steps(text.len(), options.steps);
-        match self.answer_plain(alloc, text, start, among, &mut NoWatch, Some(plain_steps)) {
+        match self.answer_plain(
+            runner,
+            alloc,
+            text,
+            start,
+            among,
+            &mut NoWatch,
+            Some(plain_steps),
+        ) {
             Err(ParseFault::StepLimit) => {
                 self.answer_with_memo(
                     alloc,
@@ -198,7 +240,8 @@ impl Engine {
             None => Err(ParseFault::NoSuchStart),
             Some(_) if text.len() > MAX_TEXT_BYTES => Err(ParseFault::TextTooLong),
             Some(start) if memo == 0 => {
-                self.answer_plain(alloc, text, start, None, watch, max_steps)
+                let mut runner = self.runner(alloc);
+                self.answer_plain(&mut runner, alloc, text, start, None, watch, max_steps)
             }
             Some(start) => {
                 self.answer_with_memo(alloc, text, start, None, memo, watch, max_steps)
@@ -234,12 +277,22 @@ impl Engine {
             (name_of (engine_rules self.now) start) (GetsCalls W.records W.traced watch.old watch.new) }
     {
         let mut store = SelectiveStore::new(alloc, capacity, &self.costs, text)?;
-        self.answer(alloc, text, start, among, &mut store, watch, max_steps)
+        let mut runner = self.runner(alloc);
+        self.answer(
+            &mut runner,
+            text,
+            start,
+            among,
+            &mut store,
+            watch,
+            max_steps,
+        )
     }
 
     // Runs the machine on a text from a rule, without a memo and with a tracer.
     fn answer_plain<W: Watch>(
         &self,
+        runner: &mut Runner<'_>,
         alloc: Global,
         text: &[u8],
         start: u32,
@@ -247,6 +300,7 @@ impl Engine {
         watch: &mut W,
         max_steps: Option<u64>,
     ) -> Result<Answer, ParseFault>
+        requires program { runner.old.program.now ≡ self.now.program }
         requires start { start < length (engine_rules self.now) }
         requires ascending { ForSome among (λ terminals. IsStrictlyIncreasing terminals.now) }
         ensures parse { (named : Option (List ℕ))
@@ -264,16 +318,17 @@ impl Engine {
             × AreFirstCalls (engine_rules self.now) text.now (name_of (engine_rules self.now) start) calls }
         ensures out_of_memory { IsErrOf result ParseFault.Memory → TracesSomeCalls (engine_rules self.now) text.now
             (name_of (engine_rules self.now) start) (GetsCalls W.records W.traced watch.old watch.new) }
+        ensures program { runner.new.program.now ≡ runner.old.program.now }
     {
         let mut memo = NoMemo;
         let mut store = CopiedNodes::new(alloc, &mut memo);
-        self.answer(alloc, text, start, among, &mut store, watch, max_steps)
+        self.answer(runner, text, start, among, &mut store, watch, max_steps)
     }
 
     // Runs the machine on a text from a rule, with a store without nodes and entries, and a tracer.
     fn answer<S: NodeStore, W: Watch>(
         &self,
-        alloc: Global,
+        runner: &mut Runner<'_>,
         text: &[u8],
         start: u32,
         among: Option<&[u32]>,
@@ -281,6 +336,7 @@ impl Engine {
         watch: &mut W,
         max_steps: Option<u64>,
     ) -> Result<Answer, ParseFault>
+        requires program { runner.old.program.now ≡ self.now.program }
         requires start { start < length (engine_rules self.now) }
         requires ascending { ForSome among (λ terminals. IsStrictlyIncreasing terminals.now) }
         requires no_nodes { (S.state store.old).nodes ≡ [] }
@@ -304,23 +360,41 @@ impl Engine {
             × AreFirstCalls (engine_rules self.now) text.now (name_of (engine_rules self.now) start) calls }
         ensures out_of_memory { IsErrOf result ParseFault.Memory → TracesSomeCalls (engine_rules self.now) text.now
             (name_of (engine_rules self.now) start) (GetsCalls W.records W.traced watch.old watch.new) }
+        ensures program { runner.new.program.now ≡ runner.old.program.now }
     {
         a_selected_tree_has_no_other_rules();
-        match run_in_store(
-            alloc,
-            &self.program,
-            text,
-            start,
-            among,
-            store,
-            watch,
-            max_steps,
-        ) {
+        match self.run(runner, text, start, among, store, watch, max_steps) {
             Ok(answer) => Ok(answer),
             Err(RunFault::TextTooLong) => Err(ParseFault::TextTooLong),
             Err(RunFault::StepLimit) => Err(ParseFault::StepLimit),
             Err(RunFault::Memory) => Err(ParseFault::Memory),
         }
+    }
+
+    // One run of the machine on a text from a rule, by a runner of the code.
+    fn run<S: NodeStore, W: Watch>(
+        &self,
+        runner: &mut Runner<'_>,
+        text: &[u8],
+        start: u32,
+        among: Option<&[u32]>,
+        store: &mut S,
+        watch: &mut W,
+        max_steps: Option<u64>,
+    ) -> Result<Answer, RunFault>
+        requires program { runner.old.program.now ≡ self.now.program }
+        requires start { start < length (engine_rules self.now) }
+        requires ascending { ForSome among (λ terminals. IsStrictlyIncreasing terminals.now) }
+        requires no_nodes { (S.state store.old).nodes ≡ [] }
+        requires empty { map.len (S.state store.old).memo.entries ≡ 0 }
+        ensures run { IsRun (shown_in self.now) (listed among.entry) (bodies_of self.now.program.core) text.now start
+            max_steps
+            (NeverStores (λ (any : S). (S.state any).memo.entries)) (S.state store.old).memo.capacity
+            (S.state store.new).memo.allocation_failed
+            (GetsCalls W.records W.traced watch.old watch.new) result }
+        ensures program { runner.new.program.now ≡ runner.old.program.now }
+    {
+        runner.run(text, start, among, store, watch, max_steps)
     }
 
     // The number of the start rule.

@@ -10,6 +10,7 @@ mod options;
 mod parse_among;
 mod parser;
 mod refusal;
+mod session;
 mod shown_parser;
 
 pub use grammar_file::grammar_of;
@@ -18,4 +19,5 @@ pub use options::{DEFAULT_MEMO, ParseOptions};
 pub use parser::{ParseFault, Parser};
 pub use peg_machine::Answer;
 pub use refusal::Refusal;
+pub use session::Session;
 pub use shown_parser::ShownParser;

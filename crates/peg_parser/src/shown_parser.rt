@@ -7,11 +7,13 @@ ghost use Rattle.peg_parser.specs.Calls.{TracesCallsInOrder, TracesCallsOf, Trac
 ghost use Rattle.peg_parser.specs.Engine.{engine_rules, rules_shown, shown_in, shown_parser_rules};
 ghost use Rattle.peg_parser.specs.ParseContract.{IsParse};
 ghost use Rattle.peg_parser.specs.Parser.{parser_rules, start_named};
+ghost use Rattle.peg_parser.specs.Sessions.{IsSessionOf};
 ghost use Rattle.peg_semantics.specs.Starts.{start_name};
 
 use crate::engine::Engine;
 use crate::options::ParseOptions;
 use crate::parser::{ParseFault, Parser};
+use crate::session::Session;
 use peg_grammar::Grammar;
 use peg_machine::{Answer, Watch};
 use std::alloc::Global;
@@ -44,6 +46,13 @@ impl ShownParser {
         ensures { rules_in result.now ≡ shown_parser_rules self.now }
     {
         self.engine.grammar()
+    }
+
+    /// Returns a session that parses many texts, one after the other, as `parse` does. Constant time.
+    pub fn session(&self, alloc: Global) -> Session<'_>
+        ensures { IsSessionOf self.now result }
+    {
+        Session::new(alloc, &self.engine)
     }
 
     /// Parses a prefix of a text as `Parser::parse` does. The tree is the selection of the shown rules from the tree of

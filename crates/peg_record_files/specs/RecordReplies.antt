@@ -28,6 +28,11 @@ has_line filter.Failed Matches = false
 has_line filter.Failed Differs = true
 has_line filter.Failed Refused = true
 
+-- each line that a record may have by one definition of replies, it may have by another
+abbrev pub ImpliesReply : (P Q : RecordPlace → (text line : List ℕ) → RecordOutcome → Type 0) → Type 0
+ImpliesReply P Q = (place : RecordPlace) (text line : List ℕ) (outcome : RecordOutcome) → P place text line outcome
+    → Q place text line outcome
+
 -- What is written for records from a place on: their lines in order, of those that have one. `worst` is the worst of their
 -- outcomes. `IsReply` says which line and which outcome a record may have at its place.
 pub data HaveReplies (IsReply : RecordPlace → (text line : List ℕ) → RecordOutcome → Type 0) (filter : RecordFilter) (end : RecordEnd)

@@ -4,7 +4,7 @@ ghost use Rattle.std.specs.List.{flat_map};
 ghost use Rattle.peg_io.specs.NamedFile.{bytes_of};
 ghost use Rattle.peg_records.specs.Records.{records};
 ghost use Rattle.peg_record_files.specs.Faults.{IsFaultAmongTexts, IsFaultOfOpen, IsFaultOfText, IsNoText};
-ghost use Rattle.peg_record_files.specs.RecordReplies.{WritesReplies};
+ghost use Rattle.peg_record_files.specs.RecordReplies.{ImpliesReply, WritesReplies};
 ghost use Rattle.peg_record_files.specs.Runs.{AreNoLines, IsBetween, LeadsTo, run_settings};
 ghost use Rattle.peg_record_files.specs.Streams.{AreStreams};
 
@@ -38,13 +38,13 @@ pub fn write_records<'a, O: Opener, I: Source, W: Sink, P: RecordPrinter>(
     files: &O,
     input: &mut I,
     output: &mut W,
-    printer: &P,
+    printer: &mut P,
     query: &RecordsQuery<'a>,
 ) -> Result<RecordOutcome, RecordsFault<'a>>
     requires reads { I.failed input.old ≡ false }
     requires works { W.failed output.old ≡ false }
     ensures lines { (streams : List (List ℕ)) → AreStreams (O.file_at files.now) (I.left input.old)
-        (map string_bytes query.now.texts.now) streams → WritesReplies (P.replies printer.now) query.now.filter query.now.end
+        (map string_bytes query.now.texts.now) streams → WritesReplies (P.replies printer.old) query.now.filter query.now.end
         (flat_map (records query.now.end) streams) (W.written output.old) (W.written output.new) result }
     ensures text { IfErr result (IsFaultAmongTexts (O.file_at files.now) (map string_bytes query.now.texts.now)) }
     ensures input { IsErrOf result RecordsFault.Input ↔ (I.failed input.new ≡ true) }
@@ -64,15 +64,15 @@ fn write_all<'a, O: Opener, I: Source, W: Sink, P: RecordPrinter>(
     files: &O,
     input: &mut I,
     output: &mut W,
-    printer: &P,
+    printer: &mut P,
     query: &RecordsQuery<'a>,
 ) -> Result<(), RecordsFault<'a>>
-    requires limit { run.old.reader.limit ≡ P.max_bytes printer.now }
+    requires limit { run.old.reader.limit ≡ P.max_bytes printer.old }
     requires between { IsBetween run.old }
     requires reads { I.failed input.old ≡ false }
     requires works { W.failed output.old ≡ false }
     ensures leads { (streams : List (List ℕ)) → AreStreams (O.file_at files.now) (I.left input.old)
-        (map string_bytes query.now.texts.now) streams → LeadsTo (P.replies printer.now) query.now.filter run.old.reader.end
+        (map string_bytes query.now.texts.now) streams → LeadsTo (P.replies printer.old) query.now.filter run.old.reader.end
         (flat_map (records run.old.reader.end) streams) run.old run.new (W.written output.old) (W.written output.new)
         result }
     ensures text { IfErr result (IsFaultAmongTexts (O.file_at files.now) (map string_bytes query.now.texts.now)) }
@@ -94,14 +94,14 @@ fn write_input<'a, I: Source, W: Sink, P: RecordPrinter>(
     run: &mut RecordRun,
     input: &mut I,
     output: &mut W,
-    printer: &P,
+    printer: &mut P,
     filter: RecordFilter,
 ) -> Result<(), RecordsFault<'a>>
-    requires limit { run.old.reader.limit ≡ P.max_bytes printer.now }
+    requires limit { run.old.reader.limit ≡ P.max_bytes printer.old }
     requires between { IsBetween run.old }
     requires reads { I.failed input.old ≡ false }
     requires works { W.failed output.old ≡ false }
-    ensures leads { IfSome (I.left input.old) (λ stream. LeadsTo (P.replies printer.now) filter run.old.reader.end
+    ensures leads { IfSome (I.left input.old) (λ stream. LeadsTo (P.replies printer.old) filter run.old.reader.end
         (records run.old.reader.end stream) run.old run.new (W.written output.old) (W.written output.new) result) }
     ensures text { IfErr result IsNoText }
     ensures input { IsErrOf result RecordsFault.Input ↔ (I.failed input.new ≡ true) }
@@ -122,15 +122,15 @@ fn write_texts<'a, O: Opener, W: Sink, P: RecordPrinter>(
     run: &mut RecordRun,
     files: &O,
     output: &mut W,
-    printer: &P,
+    printer: &mut P,
     query: &RecordsQuery<'a>,
 ) -> Result<(), RecordsFault<'a>>
-    requires limit { run.old.reader.limit ≡ P.max_bytes printer.now }
+    requires limit { run.old.reader.limit ≡ P.max_bytes printer.old }
     requires between { IsBetween run.old }
     requires works { W.failed output.old ≡ false }
     ensures leads { (streams : List (List ℕ))
         → map (λ (name : List ℕ). bytes_of (O.file_at files.now name)) (map string_bytes query.now.texts.now)
-        ≡ map Some streams → LeadsTo (P.replies printer.now) query.now.filter run.old.reader.end
+        ≡ map Some streams → LeadsTo (P.replies printer.old) query.now.filter run.old.reader.end
         (flat_map (records run.old.reader.end) streams) run.old run.new (W.written output.old) (W.written output.new)
         result }
     ensures text { IfErr result (IsFaultAmongTexts (O.file_at files.now) (map string_bytes query.now.texts.now)) }
@@ -150,19 +150,21 @@ fn write_text<'a, O: Opener, W: Sink, P: RecordPrinter>(
     run: &mut RecordRun,
     files: &O,
     output: &mut W,
-    printer: &P,
+    printer: &mut P,
     filter: RecordFilter,
     name: &'a str,
 ) -> Result<(), RecordsFault<'a>>
-    requires limit { run.old.reader.limit ≡ P.max_bytes printer.now }
+    requires limit { run.old.reader.limit ≡ P.max_bytes printer.old }
     requires between { IsBetween run.old }
     requires works { W.failed output.old ≡ false }
-    ensures leads { IfSome (bytes_of (O.file_at files.now name.now)) (λ stream. LeadsTo (P.replies printer.now) filter run.old.reader.end
+    ensures leads { IfSome (bytes_of (O.file_at files.now name.now)) (λ stream. LeadsTo (P.replies printer.old) filter run.old.reader.end
         (records run.old.reader.end stream) run.old run.new (W.written output.old) (W.written output.new) result) }
     ensures between { OnOk result (IsBetween run.new) }
     ensures settings { run_settings run.new ≡ run_settings run.old }
     ensures text { IfErr result (IsFaultOfText (O.file_at files.now) name.now) }
     ensures output { IsErrOf result RecordsFault.Output ↔ (W.failed output.new ≡ true) }
+    ensures printer { ImpliesReply (P.replies printer.new) (P.replies printer.old) }
+    ensures limit { P.max_bytes printer.new ≡ P.max_bytes printer.old }
 {
     match files.open(name) {
         Ok(mut source) => write_source(alloc, run, &mut source, output, printer, filter, name),
@@ -177,20 +179,22 @@ fn write_source<'a, S: Source, W: Sink, P: RecordPrinter>(
     run: &mut RecordRun,
     source: &mut S,
     output: &mut W,
-    printer: &P,
+    printer: &mut P,
     filter: RecordFilter,
     name: &'a str,
 ) -> Result<(), RecordsFault<'a>>
-    requires limit { run.old.reader.limit ≡ P.max_bytes printer.now }
+    requires limit { run.old.reader.limit ≡ P.max_bytes printer.old }
     requires between { IsBetween run.old }
     requires reads { S.failed source.old ≡ false }
     requires works { W.failed output.old ≡ false }
-    ensures leads { IfSome (S.left source.old) (λ stream. LeadsTo (P.replies printer.now) filter run.old.reader.end
+    ensures leads { IfSome (S.left source.old) (λ stream. LeadsTo (P.replies printer.old) filter run.old.reader.end
         (records run.old.reader.end stream) run.old run.new (W.written output.old) (W.written output.new) result) }
     ensures between { OnOk result (IsBetween run.new) }
     ensures settings { run_settings run.new ≡ run_settings run.old }
     ensures text { IfErr result (IsFaultOfOpen name.now (S.never_fails source.old)) }
     ensures output { IsErrOf result RecordsFault.Output ↔ (W.failed output.new ≡ true) }
+    ensures printer { ImpliesReply (P.replies printer.new) (P.replies printer.old) }
+    ensures limit { P.max_bytes printer.new ≡ P.max_bytes printer.old }
 {
     match run.write_stream(alloc, printer, filter, source, output) {
         Ok(()) => Ok(()),

@@ -5,6 +5,7 @@ ghost use Rattle.peg_io.specs.Transfer.{AppendsProperPrefix};
 ghost use Rattle.peg_records.specs.Ahead.{IsGivenFor};
 ghost use Rattle.peg_records.specs.Records.{line_feeds_of};
 ghost use Rattle.peg_records.specs.declared.end.RecordEnd.{RecordEnd};
+ghost use Rattle.peg_record_files.specs.RecordReplies.{ImpliesReply};
 
 use crate::filter::RecordFilter;
 use crate::outcome::RecordOutcome;
@@ -40,14 +41,16 @@ impl RecordLines {
     pub(crate) fn push<P: RecordPrinter>(
         &mut self,
         alloc: Global,
-        printer: &P,
+        printer: &mut P,
         filter: RecordFilter,
         given: &[u8],
         line_feeds: u64,
     ) -> Result<(), AllocError>
-        ensures { (end : RecordEnd) (text : List ℕ) → IsGivenFor (P.max_bytes printer.now) given.now text
+        ensures line { (end : RecordEnd) (text : List ℕ) → IsGivenFor (P.max_bytes printer.old) given.now text
             → line_feeds ≡ line_feeds_of end text → OnOk result
-            (AddsToLines (P.replies printer.now) filter end (text ∷ []) self.old self.new) }
+            (AddsToLines (P.replies printer.old) filter end (text ∷ []) self.old self.new) }
+        ensures printer { ImpliesReply (P.replies printer.new) (P.replies printer.old) }
+        ensures limit { P.max_bytes printer.new ≡ P.max_bytes printer.old }
     {
         let len = self.lines.len();
         let outcome = printer.push_line(alloc, self.place, given, &mut self.lines)?;

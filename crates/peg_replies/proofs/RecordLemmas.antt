@@ -13,7 +13,9 @@ use Rattle.peg_json.proofs.PrintLemmas.{with_text-status}
 use Rattle.peg_machine.specs.declared.answer.Answer.{Answer}
 use Rattle.peg_parser.specs.Accepts.{Accepts}
 use Rattle.peg_parser.specs.Fits.{Fits, ResultFits}
+use Rattle.peg_parser.specs.Sessions.{IsSessionOf}
 use Rattle.peg_parser.specs.declared.parser.ParseFault.{ParseFault}
+use Rattle.peg_record_files.specs.RecordReplies.{ImpliesReply}
 use Rattle.peg_record_files.specs.declared.outcome.RecordOutcome.{RecordOutcome}
 use Rattle.peg_record_files.specs.declared.outcome.RecordOutcome.TheVariants as outcome
 use Rattle.peg_record_files.specs.declared.place.RecordPlace.{RecordPlace}
@@ -21,10 +23,14 @@ use Rattle.peg_records.specs.Ahead.{IsGivenFor}
 use Rattle.peg_semantics.specs.Rules.{Rule}
 use Rattle.peg_semantics.specs.Starts.{start_name}
 use Rattle.peg_semantics.specs.Terminals.{extents_of_terminals}
+use Rattle.peg_replies.specs.Commands.{parse_task}
 use Rattle.peg_replies.specs.PrintedNodes.{PrintedNodes, first_unknown, shown_by}
+use Rattle.peg_replies.specs.RecordParsers.{IsRecordParserOf, IsReplyBy}
 use Rattle.peg_replies.specs.RecordReplies.{IsRecordReply, IsStatusOfParse, outcome_status}
 use Rattle.peg_replies.specs.Replies.{RepliesTo, parsed}
 use Rattle.peg_replies.specs.Task.{ToolTask, ParseTask}
+use Rattle.peg_replies.specs.declared.record_parser.RecordParser.{RecordParser}
+use Rattle.peg_replies.specs.declared.record_session.RecordSession.{RecordSession}
 use Rattle.peg_replies.proofs.RunLemmas.{RepliesTo-longer}
 
 -- ---- parsers
@@ -102,3 +108,16 @@ record-reply file given text line place status rules start memo steps all form n
       ends (subst IsStatusOfParse (sym same)
           (parse-status rules given start memo steps all form (shown_by rules nodes) asked.0 some asked.1)) ∙ is.3,
     )
+
+-- ---- sessions
+
+-- a session that still parses as its parser does makes the same lines
+pub same-replies : (before after : RecordSession) → after.records.now ≡ before.records.now
+    → (IsSessionOf before.records.now.shown before.session → IsSessionOf before.records.now.shown after.session)
+    → ImpliesReply (IsReplyBy after) (IsReplyBy before)
+same-replies before after same parses place text line outcome reply file of =
+    subst (λ (by : RecordParser). IsRecordReply file (parse_task by.options by.printing) place text line outcome) same
+    (reply file record {
+      parser = subst (IsRecordParserOf file) (sym same) of.parser;
+      parses = subst (λ (by : RecordParser). IsSessionOf by.shown after.session) (sym same) (parses of.parses);
+    })

@@ -8,6 +8,7 @@ use Rattle.peg_json.specs.declared.line.Line.{Line}
 use Rattle.peg_parser.specs.Accepts.{Accepts}
 use Rattle.peg_parser.specs.Engine.{rules_shown, shown_parser_rules}
 use Rattle.peg_parser.specs.Parser.{parser_rules, start_named}
+use Rattle.peg_parser.specs.Sessions.{IsSessionOf}
 use Rattle.peg_record_files.specs.declared.outcome.RecordOutcome.{RecordOutcome}
 use Rattle.peg_record_files.specs.declared.place.RecordPlace.{RecordPlace}
 use Rattle.peg_semantics.specs.Rules.{Rule}
@@ -18,6 +19,7 @@ use Rattle.peg_replies.specs.RecordReplies.{IsRecordReply, RefusesRecords}
 use Rattle.peg_replies.specs.declared.prepare.Prepared.{Prepared}
 use Rattle.peg_replies.specs.declared.prepare.Prepared.TheVariants.{Ready, Refused}
 use Rattle.peg_replies.specs.declared.record_parser.RecordParser.{RecordParser}
+use Rattle.peg_replies.specs.declared.record_session.RecordSession.{RecordSession}
 use Rattle.peg_replies.specs.declared.tree_printing.TreePrinting.{TreePrinting}
 use Rattle.peg_parser.specs.declared.options.ParseOptions.{ParseOptions}
 
@@ -37,10 +39,15 @@ ParsesByRecords parser text reply =
     parser.printing.all parser.printing.form (shown_by (parser_rules parser.parser) (nodes_asked parser.printing.nodes))
     parser.printing.with_bytes reply
 
--- the line and the outcome of a record by a parser
-abbrev pub IsReplyBy : RecordParser → RecordPlace → (text line : List ℕ) → RecordOutcome → Type 0
-IsReplyBy parser place text line outcome = (file : List ℕ) → IsRecordParserOf file parser
-    → IsRecordReply file (parse_task parser.options parser.printing) place text line outcome
+-- the same of a session, which parses as its parser does
+pub record IsRecordSessionOf (file : List ℕ) (session : RecordSession) : Type 0 where
+  pub parser : IsRecordParserOf file session.records.now
+  pub parses : IsSessionOf session.records.now.shown session.session
+
+-- the line and the outcome of a record by a session
+abbrev pub IsReplyBy : RecordSession → RecordPlace → (text line : List ℕ) → RecordOutcome → Type 0
+IsReplyBy session place text line outcome = (file : List ℕ) → IsRecordSessionOf file session
+    → IsRecordReply file (parse_task session.records.now.options session.records.now.printing) place text line outcome
 
 -- the line that reports a name that no rule has, or that there is no such name
 abbrev pub IsUnknownName : (file : List ℕ) → List Rule → ParseOptions → TreePrinting → Option Line → Type 0

@@ -14,6 +14,7 @@ use Rattle.peg_json.specs.Statuses.{status_code}
 use Rattle.peg_json.specs.declared.line.Line.{Line}
 use Rattle.peg_messages.specs.FileNames.{shown_name}
 use Rattle.peg_parser.specs.Parser.{parser_rules}
+use Rattle.peg_parser.specs.Sessions.{IsSessionOf}
 use Rattle.peg_records.specs.declared.end.RecordEnd.{RecordEnd}
 use Rattle.peg_record_files.specs.Faults.{IsFaultAmongTexts}
 use Rattle.peg_record_files.specs.RecordReplies.{WritesReplies}
@@ -27,6 +28,7 @@ use Rattle.peg_replies.specs.RecordParsers.{IsRecordParserOf, IsReplyBy}
 use Rattle.peg_replies.specs.RecordReplies.{HasParse, IsRecordReply, RefusesRecords, outcome_status}
 use Rattle.peg_replies.specs.Task.{ToolTask}
 use Rattle.peg_replies.specs.declared.record_parser.RecordParser.{RecordParser}
+use Rattle.peg_replies.specs.declared.record_session.RecordSession.{RecordSession}
 use Rattle.peg_tool.specs.CommandOutcome.{RecordsOutcome, WritesOrFails}
 use Rattle.peg_tool.specs.Faults.{IsFaultAmong, IsFaultAt, plain_fault, plain_result, record_streams, standard_input, standard_output}
 use Rattle.peg_tool.specs.RecordFaults.{EndsRecords, HasFaultOfRecords}
@@ -44,13 +46,20 @@ use Rattle.peg_tool.proofs.CoverageLemmas.{at-among, ended-among, last-among}
 -- ---- the lines of records
 
 -- the lines of records by a parser are those by its grammar file
-pub records-by : (file : List ℕ) (parser : RecordParser) (filter : RecordFilter) (end : RecordEnd) (texts : List (List ℕ))
-    (old new : Option (List ℕ)) (ended : Result RecordOutcome RecordsFault) → IsRecordParserOf file parser
-    → WritesReplies (IsReplyBy parser) filter end texts old new ended
+pub records-by : (file : List ℕ) (parser : RecordParser) (session : RecordSession) (filter : RecordFilter)
+    (end : RecordEnd) (texts : List (List ℕ)) (old new : Option (List ℕ)) (ended : Result RecordOutcome RecordsFault)
+    → session.records.now ≡ parser → IsSessionOf parser.shown session.session → IsRecordParserOf file parser
+    → WritesReplies (IsReplyBy session) filter end texts old new ended
     → WritesReplies (IsRecordReply file (parse_task parser.options parser.printing)) filter end texts old new ended
-records-by file parser filter end texts old new ended of is =
-    writes-weaker (IsReplyBy parser) (IsRecordReply file (parse_task parser.options parser.printing)) filter end
-    (λ place text line outcome reply. reply file of) texts old new ended is
+records-by file parser session filter end texts old new ended same parses of is =
+    writes-weaker (IsReplyBy session) (IsRecordReply file (parse_task parser.options parser.printing)) filter end
+    (λ place text line outcome reply.
+    subst (λ (by : RecordParser). IsRecordReply file (parse_task by.options by.printing) place text line outcome) same
+    (reply file record {
+      parser = subst (IsRecordParserOf file) (sym same) of;
+      parses = subst (λ (by : RecordParser). IsSessionOf by.shown session.session) (sym same) parses;
+    }))
+    texts old new ended is
 
 -- records can be parsed by a grammar file that has a parser
 pub has-parse : (file : List ℕ) (parser : RecordParser) → IsRecordParserOf file parser

@@ -125,7 +125,8 @@ fn write_by_parser<'a, O: Opener, I: Source, W: Sink>(
         (W.failed output.new) (I.fault_kind input.new) (W.fault_kind output.new) result }
     ensures unread { map string_bytes query.now.texts.now ≢ [] → input.new ≡ input.old }
 {
-    let ended = write_records(alloc, files, input, output, parser, query);
+    let mut session = parser.session(alloc);
+    let ended = write_records(alloc, files, input, output, &mut session, query);
     status_or_fault(ended, input.fault_kind(), output.fault_kind())
 }
 

@@ -13,6 +13,7 @@ records-init c = record {
   answers = no_records;
   used = omega arith;
   none = λ is. refl;
+  session = c.session-session.ensures;
   others = refl;
   other_nodes = refl;
 }
@@ -31,6 +32,7 @@ records-preserved c =
           c.records.invariant.answers adds;
       used = subst (λ (n : _). c.records.used + c.in-Ok.answered.nodes ≤ node_room n) (sym kept) more.0;
       none = λ is. absurd (omega arith);
+      session = c.answer_record.ensures.session;
       others = drop_more_set_at c.args.records.now c.records.records c.records.i c.in-Ok.answered
           c.records.invariant.others;
       other_nodes = more.1 ∙ drop_further c.args.nodes.now c.records.nodes c.records.used

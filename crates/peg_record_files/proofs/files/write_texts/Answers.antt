@@ -6,12 +6,14 @@ use Rattle.peg_io.specs.NamedFile.{bytes_of}
 use Rattle.peg_records.specs.Records.{records}
 use Rattle.peg_record_files.specs.Runs.{AddsPart, AddsReplies}
 use Rattle.peg_record_files.proofs.FileLemmas.{leads-error, texts-added, texts-none, texts-part}
-use Rattle.peg_record_files.proofs.StreamLemmas.{names-around, names-more}
+use Rattle.peg_record_files.proofs.StreamLemmas.{if-known, names-around, names-more}
+use Rattle.peg_record_files.proofs.WeakerReplies.{adds-part-weaker, adds-weaker}
 use Rattle.peg_record_files.proofs.files.write_texts.Goals as goal
 
 pub names-init : goal.names-init
 names-init g c = record {
   settings = refl;
+  printer = λ place text line outcome is. is;
   limit = c.requires.limit;
   between = c.requires.between;
   works = c.requires.works;
@@ -23,7 +25,9 @@ names-init g c = record {
 pub names-preserved : goal.names-preserved
 names-preserved g c = record {
   settings = c.in_ok-write_text.ensures.settings ∙ c.names.invariant.settings;
-  limit = ap (λ s. s.1) c.in_ok-write_text.ensures.settings ∙ c.names.invariant.limit;
+  printer = λ place text line outcome is. c.names.invariant.printer place text line outcome
+      (c.write_text.ensures.printer place text line outcome is);
+  limit = ap (λ s. s.1) c.in_ok-write_text.ensures.settings ∙ (c.names.invariant.limit ∙ sym c.write_text.ensures.limit);
   between = c.in_ok-write_text.ensures.between;
   works = grind (arith, common_steps);
   adds = λ streams are.
@@ -38,7 +42,10 @@ names-preserved g c = record {
       let new = g.W.Sink.written c.write_text.new.output in
       let more = subst (λ e. IfSome (f name) (λ stream.
       AddsReplies IsReply filter e (records e stream) c.names.run.lines c.write_text.new.run.lines mid new))
-      (ap (λ s. s.0) c.names.invariant.settings) c.in_ok-write_text.ensures.leads in
+      (ap (λ s. s.0) c.names.invariant.settings)
+      (if-known (f name) _ _ c.in_ok-write_text.ensures.leads (λ stream. adds-weaker _ IsReply filter
+      c.names.run.reader.end c.names.invariant.printer (records c.names.run.reader.end stream) c.names.run.lines
+      c.write_text.new.run.lines mid new)) in
       texts-added IsReply filter c.args.run.now.reader.end f (map string_bytes (take i texts)) name c.args.run.now.lines
       c.names.run.lines c.write_text.new.run.lines old mid new c.names.invariant.adds more streams
       (ap (map f) (sym (names-more texts i c.name-item.result name c.names-test.true c.name-item.is c.deref.ensures)) ∙ are);
@@ -57,7 +64,10 @@ returns-in_err-write_text-clause-leads g c streams are =
     let mid = g.W.Sink.written c.names.output in
     let new = g.W.Sink.written c.write_text.new.output in
     let more = subst (λ e. IfSome (f name) (λ stream. AddsPart IsReply filter e c.names.run.lines.place (records e stream) mid new))
-    (ap (λ s. s.0) c.names.invariant.settings) c.in_err-write_text.ensures.leads in
+    (ap (λ s. s.0) c.names.invariant.settings)
+    (if-known (f name) _ _ c.in_err-write_text.ensures.leads (λ stream. adds-part-weaker _ IsReply filter
+    c.names.run.reader.end c.names.invariant.printer c.names.run.lines.place
+    (records c.names.run.reader.end stream) mid new)) in
     leads-error IsReply filter end (flat_map (records end) streams) c.args.run.now c.write_text.new.run old new c.in_err-write_text.field-0.0
     c.from_residual.result c.from_residual.ensures.1
     (texts-part IsReply filter end f (map string_bytes (take i texts)) (map string_bytes (drop (i + 1) texts)) name

@@ -12,7 +12,8 @@ returns-clause-leads g c file of =
       has-parse file c.args.parser.now of,
       λ streams are. (
         ended.result,
-        records-by file c.args.parser.now _ _ _ _ _ ended.result of (ended.ensures.lines streams are),
+        records-by file c.args.parser.now c.session-session.result _ _ _ _ _ ended.result c.session-session.ensures.records
+            c.session-session.ensures.parses of (ended.ensures.lines streams are),
         c.status_or_fault.ensures.plain,
       ),
     )

@@ -4,8 +4,8 @@ use Rattle.peg_explain_files.specs.Printings.{printed_by}
 use Rattle.peg_explain_records.proofs.MessageLemmas.{record-message}
 use Rattle.peg_explain_records.proofs.printer.RecordExplainerRecordPrinter.push_line.Goals as goal
 
-pub returns : goal.returns
-returns c text is_given =
+pub returns-clause-line : goal.returns-clause-line
+returns-clause-line c text is_given =
     let by = c.args.self.now in
     let reported = c.in_ok-report.report in (
       printed_by by.printing (message_of by.name.now reported),

@@ -3,9 +3,9 @@ use Rattle.std.proofs.lemmas.Grind.{common_steps}
 use Rattle.peg_record_files.proofs.ReplyLemmas.{adds-one, place-next}
 use Rattle.peg_record_files.proofs.lines.RecordLines.push.Goals as goal
 
-pub returns : goal.returns
-returns g c end text given feeds =
-    let replied = c.in_ok-outcome.ensures text given in
+pub returns-clause-line : goal.returns-clause-line
+returns-clause-line g c end text given feeds =
+    let replied = c.in_ok-outcome.ensures.line text given in
     let size : c.len-len.result ≡ length c.args.self.now.lines.items = grind (arith, common_steps) in
     adds-one (g.P.RecordPrinter.replies c.args.printer.now) c.args.filter end text replied.0 c.push_line.new.lines.items
     c.len-len.result c.shows.result c.in_ok-outcome.outcome c.args.self.now _ replied.1 replied.2 size

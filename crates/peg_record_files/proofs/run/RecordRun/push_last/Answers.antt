@@ -14,7 +14,7 @@ returns-in_ok-push-clause-all g c ahead before =
     let given = subst (λ n. IsGivenFor n (record_at reader) end.0) limit end.2 in
     let same = ap (λ s. s.0) c.last.ensures.settings in
     let feeds = c.line_feeds-line_feeds.ensures ∙ (end.3 ∙ ap (λ e. line_feeds_of e end.0) same) in
-    let pushed = c.in_ok-push.ensures c.args.self.now.reader.end end.0 (subst (λ (l : List ℕ).
+    let pushed = c.in_ok-push.ensures.line c.args.self.now.reader.end end.0 (subst (λ (l : List ℕ).
     IsGivenFor (g.P.RecordPrinter.max_bytes c.args.printer.now) l end.0) (sym c.record.ensures) given) feeds in
     subst (λ (l : List (List ℕ)). AddsToLines (g.P.RecordPrinter.replies c.args.printer.now) c.args.filter c.args.self.now.reader.end l
     c.args.self.now.lines c.push.new.self) (sym end.1) pushed

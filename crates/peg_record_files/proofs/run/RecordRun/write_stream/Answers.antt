@@ -7,6 +7,7 @@ use Rattle.peg_record_files.specs.Runs.{AddsFirst, AddsPart, LeadsTo}
 use Rattle.peg_record_files.specs.declared.run.RecordRun.{RecordRun}
 use Rattle.peg_record_files.proofs.RunLemmas.{first-as-part, first-none, first-part, first-trans-read, leads-in-part, leads-last-read}
 use Rattle.peg_record_files.proofs.StreamLemmas.{if-known, known, read-on, some-self}
+use Rattle.peg_record_files.proofs.WeakerReplies.{adds-first-weaker, adds-part-weaker, leads-weaker}
 use Rattle.peg_record_files.proofs.run.RecordRun.write_stream.Goals as goal
 
 pub blocks-2-init : goal.blocks-2-init
@@ -16,6 +17,8 @@ blocks-2-init g c =
     let written = g.W.Sink.written c.args.output.now in
     record {
       settings = refl;
+      printer = λ place text line outcome is. is;
+      limit = refl;
       reads = c.requires.reads;
       works = c.requires.works;
       never = λ sure. sure;
@@ -63,11 +66,14 @@ returns-then-not-branch-clause-leads g c =
     (subst (λ e. LeadsTo IsReply c.args.filter e done.later mid c.write_last.new.self
     (g.W.Sink.written c.blocks-2.output) (g.W.Sink.written c.write_last.new.output) c.write_last.result)
     (ap (λ s. s.0) (c.in_ok-read_block.ensures.settings ∙ c.blocks-2.invariant.settings))
-    (c.write_last.ensures.leads done.later ahead)))
+    (leads-weaker _ IsReply c.args.filter mid.reader.end c.blocks-2.invariant.printer done.later mid c.write_last.new.self
+    (g.W.Sink.written c.blocks-2.output) (g.W.Sink.written c.write_last.new.output) c.write_last.result
+    (c.write_last.ensures.leads done.later ahead))))
 
 pub returns-in_err-write_block-clause-leads : goal.returns-in_err-write_block-clause-leads
 returns-in_err-write_block-clause-leads g c =
     let run = c.args.self.now in
+    let mid : RecordRun = record { reader = c.read_block.new.self; lines = c.blocks-2.self.lines } in
     let IsReply = g.P.RecordPrinter.replies c.args.printer.now in
     let SoFar = λ (stream : List ℕ). (left : List ℕ) × (g.S.Source.left c.blocks-2.input ≡ Some left)
     × AddsFirst IsReply c.args.filter c.args.self.now.reader.end left (records run.reader.end stream) run c.blocks-2.self
@@ -85,7 +91,9 @@ returns-in_err-write_block-clause-leads g c =
     done (subst (λ e. AddsPart IsReply c.args.filter e c.blocks-2.self.lines.place done.later
     (g.W.Sink.written c.blocks-2.output) (g.W.Sink.written c.write_block.new.output))
     (ap (λ s. s.0) (c.in_ok-read_block.ensures.settings ∙ c.blocks-2.invariant.settings))
-    (c.in_err-write_block.ensures.leads read.0 done.later read.2))))
+    (adds-part-weaker _ IsReply c.args.filter mid.reader.end c.blocks-2.invariant.printer c.blocks-2.self.lines.place
+    done.later (g.W.Sink.written c.blocks-2.output) (g.W.Sink.written c.write_block.new.output)
+    (c.in_err-write_block.ensures.leads read.0 done.later read.2)))))
 
 pub blocks-2-preserved : goal.blocks-2-preserved
 blocks-2-preserved g c =
@@ -97,6 +105,9 @@ blocks-2-preserved g c =
     (g.W.Sink.written c.args.output.now) (g.W.Sink.written c.blocks-2.output) in
     record {
       settings = c.write_block.ensures.settings ∙ (c.in_ok-read_block.ensures.settings ∙ c.blocks-2.invariant.settings);
+      printer = λ place text line outcome is. c.blocks-2.invariant.printer place text line outcome
+          (c.write_block.ensures.printer place text line outcome is);
+      limit = c.write_block.ensures.limit ∙ c.blocks-2.invariant.limit;
       reads = grind (arith, common_steps);
       works = grind (arith, common_steps);
       never = λ sure. (c.in_ok-read_block.ensures.never (c.blocks-2.invariant.never sure)).1;
@@ -114,7 +125,9 @@ blocks-2-preserved g c =
                 (subst (λ e. AddsFirst IsReply c.args.filter e read.0 done.later mid c.write_block.new.self
                 (g.W.Sink.written c.blocks-2.output) (g.W.Sink.written c.write_block.new.output))
                 (ap (λ s. s.0) (c.in_ok-read_block.ensures.settings ∙ c.blocks-2.invariant.settings))
-                (c.in_ok-write_block.ensures.leads read.0 done.later read.2)),
+                (adds-first-weaker _ IsReply c.args.filter mid.reader.end c.blocks-2.invariant.printer read.0 done.later mid
+                c.write_block.new.self (g.W.Sink.written c.blocks-2.output) (g.W.Sink.written c.write_block.new.output)
+                (c.in_ok-write_block.ensures.leads read.0 done.later read.2))),
           ));
     }
 

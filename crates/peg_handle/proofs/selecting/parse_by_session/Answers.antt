@@ -6,7 +6,7 @@ use Rattle.peg_parser.specs.Engine.{rules_shown, shown_parser_rules}
 use Rattle.peg_parser.specs.SelectedOutcomes.{IsParseOutcomeBy}
 use Rattle.peg_parser.specs.StepLimits.{TakesMoreSteps}
 use Rattle.peg_handle.proofs.AnswerLemmas.{err_of, is_answer}
-use Rattle.peg_handle.proofs.selecting.parse_selecting.Goals as goal
+use Rattle.peg_handle.proofs.selecting.parse_by_session.Goals as goal
 
 pub returns-clause-answer : goal.returns-clause-answer
 returns-clause-answer c =
