@@ -7,8 +7,8 @@ use Rattle.std.specs.Io.KnownBytes.{Appends}
 use Rattle.peg_io.specs.Transfer.{AppendsProperPrefix}
 use Rattle.peg_records.specs.Records.{line_feeds_of}
 use Rattle.peg_records.specs.declared.end.RecordEnd.{RecordEnd}
-use Rattle.peg_record_files.specs.Places.{next_place, place_after}
-use Rattle.peg_record_files.specs.RecordReplies.{HaveReplies, a_record, has_line, no_record, worse_outcome}
+use Rattle.peg_record_files.specs.Places.{failures, next_place}
+use Rattle.peg_record_files.specs.RecordReplies.{HaveRepliesTo, a_record, has_line, no_record, worse_outcome}
 use Rattle.peg_record_files.specs.Runs.{AddsPart, AddsReplies}
 use Rattle.peg_record_files.specs.declared.filter.RecordFilter.{RecordFilter}
 use Rattle.peg_record_files.specs.declared.lines.RecordLines.{RecordLines}
@@ -34,35 +34,34 @@ worse-assoc Refused b c = refl
 
 -- ---- places
 
-place-append : (end : RecordEnd) (place : RecordPlace) (xs ys : List (List ℕ))
-    → place_after end place (xs ++ ys) ≡ place_after end (place_after end place xs) ys
-place-append end place [] ys = refl
-place-append end place (x ∷ xs) ys = place-append end (next_place end place x) xs ys
-
 -- the place after a record with this many line feeds
-pub place-next : (end : RecordEnd) (place after : RecordPlace) (text : List ℕ) (line_feeds : ℕ)
+pub place-next : (end : RecordEnd) (place after : RecordPlace) (text : List ℕ) (line_feeds : ℕ) (outcome : RecordOutcome)
     → after.number ≡ place.number + 1 → after.line_feeds ≡ place.line_feeds + line_feeds
-    → line_feeds ≡ line_feeds_of end text → after ≡ next_place end place text
-place-next end place after text line_feeds number feeds is =
-    λ i. record { number = number i; line_feeds = (feeds ∙ ap (λ n. place.line_feeds + n) is) i }
+    → after.failed ≡ place.failed + failures outcome → line_feeds ≡ line_feeds_of end text
+    → after ≡ next_place end place text outcome
+place-next end place after text line_feeds outcome number feeds failed is = λ i. record {
+  number = number i;
+  line_feeds = (feeds ∙ ap (λ n. place.line_feeds + n) is) i;
+  failed = failed i;
+}
 
 -- ---- what is written
 
 -- what is written for the first records and for the others
 pub replies-append : (IsReply : RecordPlace → (text line : List ℕ) → RecordOutcome → Type 0) (filter : RecordFilter) (end : RecordEnd)
-    (place next : RecordPlace) (xs ys : List (List ℕ)) (written more : List ℕ) (worst worse : RecordOutcome)
-    → HaveReplies IsReply filter end place xs written worst → next ≡ place_after end place xs
-    → HaveReplies IsReply filter end next ys more worse
-    → HaveReplies IsReply filter end place (xs ++ ys) (written ++ more) (worse_outcome worst worse)
-replies-append IsReply filter end place next [] ys written more worst worse no_record is others =
-    subst (λ (p : RecordPlace). HaveReplies IsReply filter end p ys more worse) is others
-replies-append IsReply filter end place next (x ∷ xs) ys written more worst worse (a_record {line} {later} {outcome} {worst = rest} reply replies) is others =
+    (place next after : RecordPlace) (xs ys : List (List ℕ)) (written more : List ℕ) (worst worse : RecordOutcome)
+    → HaveRepliesTo IsReply filter end place xs written worst next
+    → HaveRepliesTo IsReply filter end next ys more worse after
+    → HaveRepliesTo IsReply filter end place (xs ++ ys) (written ++ more) (worse_outcome worst worse) after
+replies-append IsReply filter end place next after [] ys written more worst worse no_record others = others
+replies-append IsReply filter end place next after (x ∷ xs) ys written more worst worse
+    (a_record {line} {later} {outcome} {worst = rest} reply replies) others =
     let shown = if has_line filter outcome then line else [] in
     let all = a_record reply
-    (replies-append IsReply filter end (next_place end place x) next xs ys later more rest worse replies is others) in
-    subst (λ (l : List ℕ). HaveReplies IsReply filter end place (x ∷ (xs ++ ys)) l (worse_outcome (worse_outcome outcome rest) worse))
-    (sym (append_assoc shown later more))
-    (subst (λ (o : RecordOutcome). HaveReplies IsReply filter end place (x ∷ (xs ++ ys)) (shown ++ (later ++ more)) o)
+    (replies-append IsReply filter end (next_place end place x outcome) next after xs ys later more rest worse replies others) in
+    subst (λ (l : List ℕ). HaveRepliesTo IsReply filter end place (x ∷ (xs ++ ys)) l
+    (worse_outcome (worse_outcome outcome rest) worse) after) (sym (append_assoc shown later more))
+    (subst (λ (o : RecordOutcome). HaveRepliesTo IsReply filter end place (x ∷ (xs ++ ys)) (shown ++ (later ++ more)) o after)
     (sym (worse-assoc outcome rest worse)) all)
 
 -- ---- what is added
@@ -75,7 +74,6 @@ adds-none IsReply filter end lines bytes = record {
   replies = no_record;
   appends = Appends-nil bytes;
   outcome = sym (worse-none lines.outcome);
-  place = refl;
 }
 
 pub adds-trans : (IsReply : RecordPlace → (text line : List ℕ) → RecordOutcome → Type 0) (filter : RecordFilter) (end : RecordEnd)
@@ -85,13 +83,11 @@ pub adds-trans : (IsReply : RecordPlace → (text line : List ℕ) → RecordOut
 adds-trans IsReply filter end xs ys a b c old mid new first second = record {
   written = first.written ++ second.written;
   worst = worse_outcome first.worst second.worst;
-  replies = replies-append IsReply filter end a.place b.place xs ys first.written second.written first.worst second.worst
-      first.replies first.place second.replies;
+  replies = replies-append IsReply filter end a.place b.place c.place xs ys first.written second.written first.worst
+      second.worst first.replies second.replies;
   appends = Appends-trans old mid new first.written second.written first.appends second.appends;
   outcome = second.outcome ∙ (ap (λ o. worse_outcome o second.worst) first.outcome
       ∙ worse-assoc a.outcome first.worst second.worst);
-  place = second.place ∙ (ap (λ (p : RecordPlace). place_after end p ys) first.place
-      ∙ sym (place-append end a.place xs ys));
 }
 
 -- a line that is kept only if it is shown
@@ -107,7 +103,7 @@ pub adds-one : (IsReply : RecordPlace → (text line : List ℕ) → RecordOutco
     → IsReply before.place text line outcome → pushed ≡ before.lines.items ++ line → len ≡ length before.lines.items
     → shown ≡ has_line filter outcome
     → after.lines.items ≡ (if shown then pushed else take len pushed)
-    → after.outcome ≡ worse_outcome before.outcome outcome → after.place ≡ next_place end before.place text
+    → after.outcome ≡ worse_outcome before.outcome outcome → after.place ≡ next_place end before.place text outcome
     → AddsReplies IsReply filter end (text ∷ []) before after (Some before.lines.items) (Some after.lines.items)
 adds-one IsReply filter end text line pushed len shown outcome before after reply is size shows kept worst place =
     let items = kept-line shown before.lines.items line after.lines.items len size
@@ -116,10 +112,11 @@ adds-one IsReply filter end text line pushed len shown outcome before after repl
     record {
       written = (if has_line filter outcome then line else []) ++ [];
       worst = worse_outcome outcome Matches;
-      replies = a_record reply no_record;
+      replies = subst (λ (p : RecordPlace). HaveRepliesTo IsReply filter end before.place (text ∷ [])
+          ((if has_line filter outcome then line else []) ++ []) (worse_outcome outcome Matches) p) (sym place)
+          (a_record reply no_record);
       appends = some ∙ ap (λ (l : List ℕ). before.lines.items ++ l) (sym (append-nil (if has_line filter outcome then line else [])));
       outcome = worst ∙ ap (worse_outcome before.outcome) (sym (worse-none outcome));
-      place = place;
     }
 
 -- lines that were collected are written
@@ -130,10 +127,10 @@ pub adds-written : (IsReply : RecordPlace → (text line : List ℕ) → RecordO
 adds-written IsReply filter end texts a b c xs ys old new none adds wrote same = record {
   written = adds.written;
   worst = adds.worst;
-  replies = adds.replies;
+  replies = subst (λ (p : RecordPlace). HaveRepliesTo IsReply filter end a.place texts adds.written adds.worst p)
+      (sym same.0) adds.replies;
   appends = subst (Appends old new) (adds.appends ∙ ap (λ (l : List ℕ). l ++ adds.written) none) wrote;
   outcome = same.1 ∙ adds.outcome;
-  place = same.0 ∙ adds.place;
 }
 
 -- ---- parts
@@ -149,7 +146,7 @@ part-none IsReply filter end place texts bytes = record {
     all = refl;
     written = [];
     worst = Matches;
-    replies = no_record;
+    replies = (place, no_record);
     count = 0;
     is = refl;
   };
@@ -175,8 +172,11 @@ part-after IsReply filter end xs ys a b old mid new first second = record {
     all = ap (λ (l : List (List ℕ)). xs ++ l) second.of.all ∙ sym (append_assoc xs second.of.first second.of.later);
     written = first.written ++ second.of.written;
     worst = worse_outcome first.worst second.of.worst;
-    replies = replies-append IsReply filter end a.place b.place xs second.of.first first.written second.of.written first.worst
-        second.of.worst first.replies first.place second.of.replies;
+    replies = (
+      second.of.replies.0,
+      replies-append IsReply filter end a.place b.place second.of.replies.0 xs second.of.first first.written
+          second.of.written first.worst second.of.worst first.replies second.of.replies.1,
+    );
     count = length first.written + second.of.count;
     is = ap (λ (l : List ℕ). first.written ++ l) second.of.is
         ∙ sym (take-past first.written second.of.written second.of.count);
@@ -223,7 +223,7 @@ part-written IsReply filter end texts a b xs ys old new none adds wrote = record
     all = sym (append-nil texts);
     written = adds.written;
     worst = adds.worst;
-    replies = adds.replies;
+    replies = (b.place, adds.replies);
     count = wrote.0;
     is = ap (take wrote.0) (adds.appends ∙ ap (λ (l : List ℕ). l ++ adds.written) none);
   };

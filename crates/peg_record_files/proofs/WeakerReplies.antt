@@ -2,7 +2,7 @@
 use Rattle.std.proofs.Common.{◌≡◌, ℕ, List, [], ◌∷◌, Option, Result, Ok, Err}
 use Rattle.peg_records.specs.declared.end.RecordEnd.{RecordEnd}
 use Rattle.peg_record_files.specs.Places.{first_place, next_place}
-use Rattle.peg_record_files.specs.RecordReplies.{HaveReplies, HaveRepliesInPart, ImpliesReply, WritesReplies, a_record, no_record}
+use Rattle.peg_record_files.specs.RecordReplies.{HaveRepliesInPart, HaveRepliesTo, ImpliesReply, WritesReplies, a_record, no_record}
 use Rattle.peg_record_files.specs.Runs.{AddsFirst, AddsPart, AddsReplies, LeadsTo}
 use Rattle.peg_record_files.specs.declared.fault.RecordsFault.{RecordsFault}
 use Rattle.peg_record_files.specs.declared.filter.RecordFilter.{RecordFilter}
@@ -14,11 +14,14 @@ use Rattle.peg_record_files.specs.declared.run.RecordRun.{RecordRun}
 module _ (P Q : RecordPlace → (text line : List ℕ) → RecordOutcome → Type 0) (filter : RecordFilter) (end : RecordEnd)
     (more : ImpliesReply P Q) where
   -- what is written by one definition of replies is written by a weaker one
-  replies-weaker : (place : RecordPlace) (texts : List (List ℕ)) (written : List ℕ) (worst : RecordOutcome)
-      → HaveReplies P filter end place texts written worst → HaveReplies Q filter end place texts written worst
-  replies-weaker place [] written worst no_record = no_record
-  replies-weaker place (text ∷ texts) written worst (a_record {line} {later} {outcome} {worst = rest} reply replies) =
-      a_record (more place text line outcome reply) (replies-weaker (next_place end place text) texts later rest replies)
+  replies-weaker : (place after : RecordPlace) (texts : List (List ℕ)) (written : List ℕ) (worst : RecordOutcome)
+      → HaveRepliesTo P filter end place texts written worst after
+      → HaveRepliesTo Q filter end place texts written worst after
+  replies-weaker place after [] written worst no_record = no_record
+  replies-weaker place after (text ∷ texts) written worst
+      (a_record {line} {later} {outcome} {worst = rest} reply replies) =
+      a_record (more place text line outcome reply)
+      (replies-weaker (next_place end place text outcome) after texts later rest replies)
 
   part-weaker : (place : RecordPlace) (texts : List (List ℕ)) (part : List ℕ)
       → HaveRepliesInPart P filter end place texts part → HaveRepliesInPart Q filter end place texts part
@@ -28,14 +31,15 @@ module _ (P Q : RecordPlace → (text line : List ℕ) → RecordOutcome → Typ
     all = is.all;
     written = is.written;
     worst = is.worst;
-    replies = replies-weaker place is.first is.written is.worst is.replies;
+    replies = (is.replies.0, replies-weaker place is.replies.0 is.first is.written is.worst is.replies.1);
     count = is.count;
     is = is.is;
   }
 
   pub writes-weaker : (texts : List (List ℕ)) (old new : Option (List ℕ)) (ended : Result RecordOutcome RecordsFault)
       → WritesReplies P filter end texts old new ended → WritesReplies Q filter end texts old new ended
-  writes-weaker texts old new (Ok worst) is = (is.0, replies-weaker first_place texts is.0 worst is.1, is.2)
+  writes-weaker texts old new (Ok worst) is =
+      (is.0, (is.1.0, replies-weaker first_place is.1.0 texts is.0 worst is.1.1), is.2)
   writes-weaker texts old new (Err fault) is = (is.0, part-weaker first_place texts is.0 is.1, is.2)
 
   -- what is added by one definition of replies is added by a weaker one
@@ -44,10 +48,9 @@ module _ (P Q : RecordPlace → (text line : List ℕ) → RecordOutcome → Typ
   adds-weaker texts before after old new adds = record {
     written = adds.written;
     worst = adds.worst;
-    replies = replies-weaker before.place texts adds.written adds.worst adds.replies;
+    replies = replies-weaker before.place after.place texts adds.written adds.worst adds.replies;
     appends = adds.appends;
     outcome = adds.outcome;
-    place = adds.place;
   }
 
   pub adds-part-weaker : (place : RecordPlace) (texts : List (List ℕ)) (old new : Option (List ℕ))

@@ -34,14 +34,22 @@ ImpliesReply P Q = (place : RecordPlace) (text line : List ℕ) (outcome : Recor
     → Q place text line outcome
 
 -- What is written for records from a place on: their lines in order, of those that have one. `worst` is the worst of their
--- outcomes. `IsReply` says which line and which outcome a record may have at its place.
-pub data HaveReplies (IsReply : RecordPlace → (text line : List ℕ) → RecordOutcome → Type 0) (filter : RecordFilter) (end : RecordEnd)
-    : RecordPlace → (texts : List (List ℕ)) → (written : List ℕ) → (worst : RecordOutcome) → Type 0 where
-  no_record : {place : RecordPlace} → HaveReplies IsReply filter end place [] [] Matches
-  a_record : {place : RecordPlace} {text line later : List ℕ} {texts : List (List ℕ)} {outcome worst : RecordOutcome}
-      → IsReply place text line outcome → HaveReplies IsReply filter end (next_place end place text) texts later worst
-      → HaveReplies IsReply filter end place (text ∷ texts) ((if has_line filter outcome then line else []) ++ later)
-      (worse_outcome outcome worst)
+-- outcomes, and `after` the place after them. `IsReply` says which line and which outcome a record may have at its place.
+pub data HaveRepliesTo (IsReply : RecordPlace → (text line : List ℕ) → RecordOutcome → Type 0) (filter : RecordFilter)
+    (end : RecordEnd) : (place : RecordPlace) → (texts : List (List ℕ)) → (written : List ℕ) → (worst : RecordOutcome)
+    → (after : RecordPlace) → Type 0 where
+  no_record : {place : RecordPlace} → HaveRepliesTo IsReply filter end place [] [] Matches place
+  a_record : {place after : RecordPlace} {text line later : List ℕ} {texts : List (List ℕ)} {outcome worst : RecordOutcome}
+      → IsReply place text line outcome
+      → HaveRepliesTo IsReply filter end (next_place end place text outcome) texts later worst after
+      → HaveRepliesTo IsReply filter end place (text ∷ texts) ((if has_line filter outcome then line else []) ++ later)
+      (worse_outcome outcome worst) after
+
+-- what is written for records from a place on, and the worst of their outcomes
+abbrev pub HaveReplies : (IsReply : RecordPlace → (text line : List ℕ) → RecordOutcome → Type 0) → RecordFilter
+    → RecordEnd → RecordPlace → (texts : List (List ℕ)) → (written : List ℕ) → (worst : RecordOutcome) → Type 0
+HaveReplies IsReply filter end place texts written worst =
+    (after : RecordPlace) × HaveRepliesTo IsReply filter end place texts written worst after
 
 -- a part of what is written for records: the start of what is written for the first of them
 pub record HaveRepliesInPart (IsReply : RecordPlace → (text line : List ℕ) → RecordOutcome → Type 0)

@@ -4,8 +4,8 @@ use Rattle.std.specs.Io.KnownBytes.{Appends}
 use Rattle.peg_records.specs.Readers.{IsAheadOf, rest_of, settings_of}
 use Rattle.peg_records.specs.Records.{records}
 use Rattle.peg_records.specs.declared.end.RecordEnd.{RecordEnd}
-use Rattle.peg_record_files.specs.Places.{first_place, place_after}
-use Rattle.peg_record_files.specs.RecordReplies.{HaveReplies, HaveRepliesInPart, worse_outcome}
+use Rattle.peg_record_files.specs.Places.{first_place}
+use Rattle.peg_record_files.specs.RecordReplies.{HaveRepliesInPart, HaveRepliesTo, worse_outcome}
 use Rattle.peg_record_files.specs.declared.filter.RecordFilter.{RecordFilter}
 use Rattle.peg_record_files.specs.declared.fault.StreamFault.{StreamFault}
 use Rattle.peg_record_files.specs.declared.lines.RecordLines.{RecordLines}
@@ -26,10 +26,9 @@ pub record AddsReplies (IsReply : RecordPlace → (text line : List ℕ) → Rec
     (texts : List (List ℕ)) (before after : RecordLines) (old new : Option (List ℕ)) : Type 0 where
   pub written : List ℕ
   pub worst : RecordOutcome
-  pub replies : HaveReplies IsReply filter end before.place texts written worst
+  pub replies : HaveRepliesTo IsReply filter end before.place texts written worst after.place
   pub appends : Appends old new written
   pub outcome : after.outcome ≡ worse_outcome before.outcome worst
-  pub place : after.place ≡ place_after end before.place texts
 
 -- the same, added to the lines that aren't written yet
 abbrev pub AddsToLines : (IsReply : RecordPlace → (text line : List ℕ) → RecordOutcome → Type 0) → RecordFilter → RecordEnd

@@ -56,7 +56,7 @@ impl RecordLines {
         let outcome = printer.push_line(alloc, self.place, given, &mut self.lines)?;
         keep_line(&mut self.lines, len, filter.shows(outcome));
         self.outcome = self.outcome.worse(outcome);
-        self.place = self.place.after(line_feeds)?;
+        self.place = self.place.after(line_feeds, outcome)?;
         Ok(())
     }
 

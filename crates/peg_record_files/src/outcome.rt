@@ -13,6 +13,7 @@ pub enum RecordOutcome {
 
 impl RecordOutcome {
     ghost use Rattle.std.specs.Prelude.{◌≡◌};
+    ghost use Rattle.peg_record_files.specs.Places.{failures};
     ghost use Rattle.peg_record_files.specs.RecordReplies.{worse_outcome};
 
     /// Returns the outcome that is worse.
@@ -23,6 +24,16 @@ impl RecordOutcome {
             (RecordOutcome::Matches, other) => other,
             (RecordOutcome::Differs, RecordOutcome::Refused) => RecordOutcome::Refused,
             (outcome, _) => outcome,
+        }
+    }
+
+    // How many failed records a record with this outcome is.
+    pub(crate) fn failures(self) -> u64
+        ensures { result ≡ failures self }
+    {
+        match self {
+            RecordOutcome::Matches => 0,
+            RecordOutcome::Differs | RecordOutcome::Refused => 1,
         }
     }
 }
