@@ -75,7 +75,8 @@ IsCommandOf name found (Explain g texts files_from null start memo steps rules t
     × IsFlagAt found (codes "rules") rules
     × IsFlagAt found (codes "terminals") terminals
     × IsFlagAt found (codes "quiet") quiet
-IsCommandOf name found (ExplainRecords g texts null crlf start memo steps rules terminals quiet) = (name ≡ codes "explain")
+IsCommandOf name found
+    (ExplainRecords g texts null crlf start memo steps rules terminals quiet max_errors) = (name ≡ codes "explain")
     × IsFlagAt found (codes "lines") true
     × (first_value found (codes "G") ≡ Some (string_bytes g))
     × (all_values found (codes "T") ≡ map string_bytes texts.items)
@@ -87,6 +88,7 @@ IsCommandOf name found (ExplainRecords g texts null crlf start memo steps rules 
     × IsFlagAt found (codes "rules") rules
     × IsFlagAt found (codes "terminals") terminals
     × IsFlagAt found (codes "quiet") quiet
+    × (number_at found (codes "max-errors") ≡ max_errors)
 IsCommandOf name found (Test g folders start memo steps) = (name ≡ codes "test")
     × (first_value found (codes "G") ≡ Some (string_bytes g))
     × (all_values found (codes "FOLDER") ≡ map string_bytes folders.items)

@@ -8,8 +8,8 @@ pub(crate) const MAX_MEMO: u32 = 1_000_000;
 // The default value of `--memo` for `parse`, `explain` and `test`.
 const DEFAULT_MEMO: &str = "4096";
 
-/// The largest value of `--steps`.
-pub(crate) const MAX_STEPS: u64 = 1_000_000_000_000;
+/// The largest value of `--steps` and of `--max-errors`.
+pub(crate) const MAX_LIMIT: u64 = 1_000_000_000_000;
 
 /// Builds the definition of the command line.
 pub(crate) fn program<'a>(alloc: Global) -> Result<Command<'a>, AllocError> {
@@ -152,7 +152,10 @@ fn with_explained_records<'a>(
         "Explains each record of the texts, or of standard input without texts",
     )
     .conflicts_with("files-from")?;
-    explain.arg(lines)?.arg(crlf_flag(alloc)?)
+    explain
+        .arg(lines)?
+        .arg(crlf_flag(alloc)?)?
+        .arg(max_errors_option(alloc)?)
 }
 
 fn test<'a>(alloc: Global) -> Result<Command<'a>, AllocError> {
@@ -325,13 +328,24 @@ fn steps_option<'a>(alloc: Global) -> Arg<'a> {
     Arg::new(alloc, "steps")
         .long("steps")
         .value_name("N")
-        .value_parser(value_parser!(u64).range(1..=MAX_STEPS as i64))
+        .value_parser(value_parser!(u64).range(1..=MAX_LIMIT as i64))
         .allow_negative_numbers(true)
         .help("The maximum number of steps, 1 to 1000000000000")
 }
 
 fn optional_steps_option<'a>(alloc: Global) -> Arg<'a> {
     steps_option(alloc).help("The maximum number of steps, 1 to 1000000000000 [default: no limit]")
+}
+
+// About the messages of records.
+fn max_errors_option<'a>(alloc: Global) -> Result<Arg<'a>, AllocError> {
+    Arg::new(alloc, "max-errors")
+        .long("max-errors")
+        .value_name("N")
+        .value_parser(value_parser!(u64).range(1..=MAX_LIMIT as i64))
+        .allow_negative_numbers(true)
+        .help("The maximum number of messages for the records of a text [default: no limit]")
+        .requires_arg("lines")
 }
 
 fn no_tree_flag<'a>(alloc: Global) -> Result<Arg<'a>, AllocError> {
@@ -510,7 +524,9 @@ and cause.
 With --lines, each record of the texts is a text of its own. A record ends at LF; the
 last one may lack its end. LINE is the record's line in its file. Texts may have any
 length. Without texts the records are those of standard input, which is the FILE of
-their messages. Messages are printed at the end of each block that is read.
+their messages. Messages are printed at the end of each block that is read. With
+--max-errors, only the first N messages of a text are printed; the exit status is
+still that of all records.
 
 Status: 0 all texts match; 1 some text doesn't; 2 the grammar is refused; 3 wrong
 arguments, or an unknown rule; 4 a file can't be opened or read (standard error

@@ -8,9 +8,9 @@ ghost use Rattle.clap.specs.Walk.{rows_of};
 ghost use Rattle.peg_cli.specs.ErrorAnswers.{IsAnswerToError};
 ghost use Rattle.peg_cli.specs.Mapping.{IsCommandOf, IsFlagAt, all_values, memo_or, number_at};
 ghost use Rattle.peg_cli.specs.Numbers.{IsNumberIn, number_in};
-ghost use Rattle.peg_cli.specs.Words.{IsAsking};
+ghost use Rattle.peg_cli.specs.Words.{IsAsking, IsLimit};
 
-use crate::command_line::{MAX_MEMO, MAX_STEPS, program};
+use crate::command_line::{MAX_LIMIT, MAX_MEMO, program};
 use clap::error::ErrorKind;
 use clap::{ArgMatches, Error};
 use std::alloc::{AllocError, Global};
@@ -115,7 +115,8 @@ pub enum Words {
         quiet: bool,
     },
     /// Print where the records of the text files `texts` don't match grammar file `g`, or those of standard input without
-    /// `texts`, as messages for people. Records end as those of `Records`. The other fields are those of `Explain`.
+    /// `texts`, as messages for people. Records end as those of `Records`. There are at most `max_errors` messages for the
+    /// records of a text, or one for each record that fails. The other fields are those of `Explain`.
     ExplainRecords {
         g: String,
         texts: Vec<String>,
@@ -127,6 +128,7 @@ pub enum Words {
         rules: bool,
         terminals: bool,
         quiet: bool,
+        max_errors: Option<u64>,
     },
     /// Print which texts in the folders `folders` don't do by grammar file `g` what their names ask for, as messages
     /// for people, and how many there are. The other fields are those of `ParseOptions`.
@@ -379,6 +381,7 @@ fn explain_records_of(alloc: Global, matches: &ArgMatches<'_>) -> Result<Words, 
         rules,
         terminals: matches.get_flag("terminals"),
         quiet: matches.get_flag("quiet"),
+        max_errors: limit_at(alloc, matches, "max-errors")?,
     })
 }
 
@@ -541,19 +544,30 @@ fn memo_size_or(alloc: Global, matches: &ArgMatches<'_>, default: u32) -> Result
     }
 }
 
-// The argument parser has checked the range; the tests here are for the contract.
+// The limit of steps, if one is given.
 fn step_limit(alloc: Global, matches: &ArgMatches<'_>) -> Result<Option<u64>, WordsFault>
-    ensures range { IfOk result (λ steps.
-        IfSome steps (λ max_steps. (1 ≤ max_steps) × (max_steps ≤ 1000000000000))) }
+    ensures range { IfOk result IsLimit }
     ensures number { IfOk result (λ steps. number_at (found_of matches.now) (codes "steps") ≡ steps) }
     ensures absent { one_text (found_of matches.now) (codes "steps") ≡ None → result ≡ Ok None }
     ensures given { (text : List ℕ) → one_text (found_of matches.now) (codes "steps") ≡ Some text
         → OkIff result (IsNumberIn 1 1000000000000 text) (Some (number_in text)) }
 {
-    match matches.try_get_one::<u64>("steps") {
+    limit_at(alloc, matches, "steps")
+}
+
+// The limit that an option gives, if it is given. The argument parser has checked the range; the tests here are for the
+// contract.
+fn limit_at(alloc: Global, matches: &ArgMatches<'_>, id: &str) -> Result<Option<u64>, WordsFault>
+    ensures range { IfOk result IsLimit }
+    ensures number { IfOk result (λ limit. number_at (found_of matches.now) id.now ≡ limit) }
+    ensures absent { one_text (found_of matches.now) id.now ≡ None → result ≡ Ok None }
+    ensures given { (text : List ℕ) → one_text (found_of matches.now) id.now ≡ Some text
+        → OkIff result (IsNumberIn 1 1000000000000 text) (Some (number_in text)) }
+{
+    match matches.try_get_one::<u64>(id) {
         Ok(None) => Ok(None),
         Ok(Some(0)) => Err(internal_usage_error(alloc)),
-        Ok(Some(max_steps)) if max_steps <= MAX_STEPS => Ok(Some(max_steps)),
+        Ok(Some(limit)) if limit <= MAX_LIMIT => Ok(Some(limit)),
         _ => Err(internal_usage_error(alloc)),
     }
 }

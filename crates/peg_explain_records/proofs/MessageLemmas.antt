@@ -40,7 +40,7 @@ use Rattle.peg_semantics.specs.Rules.{Rule}
 use Rattle.peg_explain_records.specs.Questions.{RecordsQuestion}
 use Rattle.peg_explain_records.specs.RecordExplainers.{IsAskedOf}
 use Rattle.peg_explain_records.specs.RecordMessages.{HaveMessages, HaveMessagesInPart, IsRecordMessage, RecordSetting, WritesMessages}
-use Rattle.peg_explain_records.specs.RecordMessages.{a_text, input_name, no_text, report_outcome, setting_of, text_names}
+use Rattle.peg_explain_records.specs.RecordMessages.{a_text, input_name, no_text, printing_at, report_outcome, setting_of, text_names}
 use Rattle.peg_explain_records.specs.declared.printer.RecordExplainer.{RecordExplainer}
 
 -- ---- one record
@@ -65,7 +65,7 @@ pub record-message : (by : RecordExplainer) (question : RecordsQuestion) (file :
     → IsReportIn file rules by.explainer.now.style (start_named by.options.now) by.options.now.memo by.options.now.steps
     (Part place.line_feeds) by.called.now given reported → outcome ≡ report_outcome reported
     → IsRecordMessage (setting_of question file rules) by.name.now place text
-    (printed_by by.printing (message_of by.name.now reported)) outcome
+    (printed_by (printing_at by.printing by.max_errors place) (message_of by.name.now reported)) outcome
 record-message by question file rules place given text reported outcome asked shown is_given long is ends =
     let lines = Part place.line_feeds in
     let style = by.explainer.now.style in
@@ -85,7 +85,10 @@ record-message by question file rules place given text reported outcome asked sh
     reported) (sym asked.steps) three in (
       reported,
       four,
-      ap (λ (p : Printing). printed_by p (message_of by.name.now reported)) (sym asked.printing),
+      ap (λ (p : Printing). printed_by (printing_at p by.max_errors place) (message_of by.name.now reported))
+          (sym asked.printing)
+          ∙ ap (λ (m : Option ℕ). printed_by (printing_at question.printing m place) (message_of by.name.now reported))
+          (sym asked.max_errors),
       ends,
     )
 

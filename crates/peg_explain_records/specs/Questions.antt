@@ -7,7 +7,7 @@ use Rattle.peg_records.specs.declared.end.RecordEnd.{RecordEnd}
 use Rattle.peg_explain_records.specs.declared.query.ExplainRecordsQuery.{ExplainRecordsQuery}
 
 -- A question: the names of a grammar file and of texts, and how records end; the start rule, the capacity of the memo (0
--- for none), and the limit of steps; how messages write items, and what is printed.
+-- for none), and the limit of steps; how messages write items, what is printed, and the limit of the messages of a text.
 pub record RecordsQuestion : Type 0 where
   pub grammar : List ℕ
   pub texts : List (List ℕ)
@@ -17,6 +17,7 @@ pub record RecordsQuestion : Type 0 where
   pub steps : Option ℕ
   pub style : ItemStyle
   pub printing : Printing
+  pub max_errors : Option ℕ
 
 -- the question of a query
 abbrev pub question_of : ExplainRecordsQuery → RecordsQuestion
@@ -29,4 +30,5 @@ question_of query = record {
   steps = query.options.steps;
   style = query.style;
   printing = query.printing;
+  max_errors = query.max_errors;
 }

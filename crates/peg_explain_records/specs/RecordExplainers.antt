@@ -26,6 +26,7 @@ pub record IsAskedOf (explainer : RecordExplainer) (question : RecordsQuestion) 
   pub steps : question.steps ≡ explainer.options.now.steps
   pub style : question.style ≡ explainer.explainer.now.style
   pub printing : question.printing ≡ explainer.printing
+  pub max_errors : question.max_errors ≡ explainer.max_errors
 
 -- the message and the outcome of a record by a record explainer
 abbrev pub IsMessageBy : RecordExplainer → RecordPlace → (text message : List ℕ) → RecordOutcome → Type 0

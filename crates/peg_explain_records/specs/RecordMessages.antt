@@ -1,9 +1,11 @@
 -- The messages of the records of texts.
-use Rattle.std.specs.Prelude.{◌≡◌, ℕ, List, [], ◌∷◌, ◌++◌, Option, Result, Ok, Err, codes}
+use Rattle.std.specs.Prelude.{◌≡◌, ℕ, List, [], ◌∷◌, ◌++◌, Option, None, Some, Result, Ok, Err, codes, if◌then◌else◌, leb}
 use Rattle.std.specs.Io.KnownBytes.{Appends}
 use Rattle.peg_explain_files.specs.Entries.{message_of}
 use Rattle.peg_explain_files.specs.Printings.{printed_by}
 use Rattle.peg_explain_files.specs.TextReports.{IsReportIn}
+use Rattle.peg_explain_files.specs.declared.printing.Printing.{Printing}
+use Rattle.peg_explain_files.specs.declared.printing.Printing.TheVariants.{Nothing}
 use Rattle.peg_explain_files.specs.declared.reports.TextReport.{TextReport}
 use Rattle.peg_explain_files.specs.declared.reports.TextReport.TheVariants as report
 use Rattle.peg_messages.specs.FileNames.{shown_name}
@@ -40,6 +42,12 @@ report_outcome report.NotUtf8 = Refused
 report_outcome report.Unopened = Refused
 report_outcome report.Unreadable = Refused
 
+-- What is printed for the record at a place: no message if the text has as many as the limit allows, since each record
+-- that failed before it has one.
+abbrev pub printing_at : Printing → (max_errors : Option ℕ) → RecordPlace → Printing
+printing_at printing None place = printing
+printing_at printing (Some most) place = if leb most place.failed then Nothing else printing
+
 -- The message and the outcome of the record at a place of the text with a name. They are what is reported of the record as
 -- a text of its own, before which the text has the line feeds of its place.
 abbrev pub IsRecordMessage : RecordSetting → (name : List ℕ) → RecordPlace → (text message : List ℕ) → RecordOutcome
@@ -48,7 +56,8 @@ IsRecordMessage setting name place text message outcome =
     let question = setting.question in (reported : TextReport)
     × IsReportIn setting.file setting.rules question.style question.start question.memo question.steps (Part place.line_feeds)
     (shown_name name) text reported
-    × (message ≡ printed_by question.printing (message_of name reported)) × (outcome ≡ report_outcome reported)
+    × (message ≡ printed_by (printing_at question.printing question.max_errors place) (message_of name reported))
+    × (outcome ≡ report_outcome reported)
 
 -- ---- the records of texts
 

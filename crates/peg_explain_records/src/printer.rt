@@ -4,7 +4,7 @@ ghost use Rattle.peg_explain_files.specs.Entries.{entry_message};
 ghost use Rattle.peg_explain_files.specs.Printings.{printed_by};
 ghost use Rattle.peg_grammar.specs.Limits.{max_text_bytes};
 ghost use Rattle.peg_messages.specs.FileNames.{shown_name};
-ghost use Rattle.peg_explain_records.specs.RecordMessages.{report_outcome};
+ghost use Rattle.peg_explain_records.specs.RecordMessages.{printing_at, report_outcome};
 
 use peg_explain::Explainer;
 use peg_explain_files::{Entry, Printing, TextReport, report_of_text};
@@ -20,6 +20,7 @@ pub(crate) struct RecordExplainer<'a> {
     pub(crate) explainer: &'a Explainer<'a>,
     pub(crate) options: &'a ParseOptions<'a>,
     pub(crate) printing: Printing,
+    pub(crate) max_errors: Option<u64>,
     /// The name of the text, and how messages show it.
     pub(crate) name: &'a [u8],
     pub(crate) called: &'a [u8],
@@ -60,7 +61,8 @@ impl RecordPrinter for RecordExplainer<'_> {
             name: self.name,
             report,
         };
-        push_message(alloc, &entry, self.printing, out)?;
+        let printing = printing_at(self.printing, self.max_errors, place);
+        push_message(alloc, &entry, printing, out)?;
         Ok(outcome)
     }
 }
@@ -77,6 +79,16 @@ fn outcome_of(report: &TextReport) -> RecordOutcome
         | TextReport::NotUtf8
         | TextReport::Unopened
         | TextReport::Unreadable => RecordOutcome::Refused,
+    }
+}
+
+// What is printed for the record at this place: no message if the text has as many as the limit allows.
+fn printing_at(printing: Printing, max_errors: Option<u64>, place: RecordPlace) -> Printing
+    ensures { result ≡ printing_at printing max_errors place }
+{
+    match max_errors {
+        Some(most) if most <= place.failed => Printing::Nothing,
+        _ => printing,
     }
 }
 

@@ -18,4 +18,6 @@ pub struct ExplainRecordsQuery<'a> {
     pub style: ItemStyle,
     /// What is printed.
     pub printing: Printing,
+    /// The greatest number of messages for the records of a text; none if there is no limit.
+    pub max_errors: Option<u64>,
 }

@@ -118,6 +118,7 @@ fn explain_named<'a, O: Opener, I: Source, W: Sink>(
         explainer,
         options: &query.options,
         printing: query.printing,
+        max_errors: query.max_errors,
         name,
         called: called.as_bytes(),
     };

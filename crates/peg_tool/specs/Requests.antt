@@ -99,7 +99,7 @@ requested (Explain g texts files_from null start memo steps rules terminals quie
       steps = steps;
       style = style_of rules terminals;
     } (printing_of quiet)
-requested (ExplainRecords g texts null crlf start memo steps rules terminals quiet) = ExplainRecordsRequest record {
+requested (ExplainRecords g texts null crlf start memo steps rules terminals quiet max_errors) = ExplainRecordsRequest record {
   grammar = string_bytes g;
   texts = map string_bytes texts.items;
   end = end_of null crlf;
@@ -108,6 +108,7 @@ requested (ExplainRecords g texts null crlf start memo steps rules terminals qui
   steps = steps;
   style = style_of rules terminals;
   printing = printing_of quiet;
+  max_errors = max_errors;
 }
 requested (Test g folders start memo steps) = TestRequest record {
   grammar = string_bytes g;

@@ -51,7 +51,7 @@ IsRecordsWords other = ⊥
 
 -- the arguments are those of an explanation of records
 abbrev pub IsExplainRecordsWords : Words → Type 0
-IsExplainRecordsWords (words.ExplainRecords g texts null crlf start memo steps rules terminals quiet) = Unit {0}
+IsExplainRecordsWords (words.ExplainRecords g texts null crlf start memo steps rules terminals quiet max_errors) = Unit {0}
 IsExplainRecordsWords other = ⊥
 
 -- the arguments are those of a coverage of records

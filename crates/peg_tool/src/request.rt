@@ -251,6 +251,7 @@ fn request_explained_records(words: &Words) -> Request<'_>
         rules,
         terminals,
         quiet,
+        max_errors,
     } = words
     else {
         unreachable!()
@@ -263,6 +264,7 @@ fn request_explained_records(words: &Words) -> Request<'_>
         options: ParseOptions { start, memo, steps },
         style: ItemStyle::from_flags(*rules, *terminals),
         printing: Printing::from_quiet(*quiet),
+        max_errors: *max_errors,
     };
     Request::ExplainRecords { query }
 }

@@ -44,6 +44,48 @@ Each text counts its lines from 1.
   ^
   [1]
 
+With --max-errors only the first messages of each text are printed. A limit of two leaves out the message of line 5, and
+a limit of three leaves out none. A record that matches has no message and doesn't count.
+
+  $ pegtool explain g t --lines --max-errors 2
+  t:2:1: expected 'a', found 'b'
+  b
+  ^
+  t:4:2: expected the end or 'a', found 'b'
+  ab
+   ^
+  [1]
+  $ pegtool explain g t --lines --max-errors 3 | grep -c '^t:'
+  3
+
+The limit is that of each text, so each has its first message.
+
+  $ pegtool explain g t open --lines --max-errors 1
+  t:2:1: expected 'a', found 'b'
+  b
+  ^
+  open:2:1: expected 'a', found 'b'
+  b
+  ^
+  [1]
+
+The exit status is that of all records. Each of 1000 letters takes at least a step, so that the last record is refused,
+and its message is left out.
+
+  $ (printf 'b\n'; head -c 1000 /dev/zero | tr '\0' a; printf '\n') > last
+  $ pegtool explain g last --lines --steps 500 --max-errors 1
+  last:1:1: expected 'a', found 'b'
+  b
+  ^
+  [6]
+
+A limit is at least one, and belongs to records.
+
+  $ pegtool explain g t --lines --max-errors 0 > /dev/null 2>&1
+  [3]
+  $ pegtool explain g t --max-errors 1 > /dev/null 2>&1
+  [3]
+
 Without texts the records are those of standard input, and with texts it isn't read.
 
   $ printf 'a\na\nb\n' | pegtool explain g --lines

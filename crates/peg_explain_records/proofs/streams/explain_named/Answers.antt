@@ -27,6 +27,7 @@ returns-clause-messages g c file rules from of is streams are =
       steps = refl;
       style = sym c.requires.styled;
       printing = refl;
+      max_errors = refl;
     })
     (flat_map (records query.end) streams) (g.W.Sink.written c.args.output.now) (g.W.Sink.written c.write_records.new.output)
     c.write_records.result (c.write_records.ensures.lines streams are)
