@@ -36,3 +36,14 @@ The fault is that of standard input.
   pegtool: file fault
   standard input: Unknown error
   [4]
+
+A line is printed when its record is there, before the stream ends, as after tail -f. Here the second record is written
+only after the first line was seen, for which a minute is waited at most.
+
+  $ (echo a; for turn in $(seq 600); do [ -s lines ] && break; sleep 0.1; done; cp lines early; echo b) |
+  >   pegtool parse g --lines --no-tree > lines
+  [1]
+  $ cat early
+  {"record":1,"consumed":1,"expected":[[5,8]],"far":1,"result":"matched"}
+  $ wc -l < lines
+  2
