@@ -78,8 +78,8 @@ extern "C" {
 
 /* A grammar handle holds a grammar, or the reason why a grammar file was refused. A match handle holds the answer to a
  * parse, and an explanation handle says where a text doesn't match. An explainer handle holds a grammar that is
- * compiled for explanations. A line handle holds a line of JSON that pegtool prints about a grammar. A parser handle
- * holds a grammar whose trees have the nodes of chosen rules. The member is private. */
+ * compiled for explanations. A line handle holds a line of JSON that pegtool prints about a grammar or a text. A parser
+ * handle holds a grammar whose trees have the nodes of chosen rules. The member is private. */
 typedef struct peg_grammar {
     void *opaque;
 } peg_grammar;
@@ -341,6 +341,16 @@ PEG_API uint32_t peg_parser_parse(peg_parser *parser, const uint8_t *text, size_
 PEG_API uint32_t peg_parser_records(peg_parser *parser, const uint8_t *text, size_t text_length, const uint8_t *start,
                                     size_t start_length, uint32_t memo, uint64_t steps, peg_record *records,
                                     size_t record_count, peg_node *nodes, size_t node_capacity, peg_progress *out);
+
+/* Makes the line that `pegtool profile` prints for a text, without its line end, and stores it in `out`: how often the
+ * parse calls each rule, and at how many positions. docs/USAGE.md describes the line. `start`, `memo` and `steps` are
+ * those of `peg_parse`; the program's own capacity of the memo is 0 here. A parse that takes more steps than `steps` is
+ * stopped there, and has a profile, too. The rules that the parser shows don't matter. `parser` is unchanged.
+ * Returns PEG_OK; the caller then has to release `out` with `peg_line_free`.
+ * Otherwise `out` is unchanged. PEG_WRONG_HANDLE: `parser` holds no parser. PEG_NO_SUCH_START: no rule has the name.
+ * PEG_TEXT_TOO_LONG: the text is too long, and the start has a rule. PEG_OUT_OF_MEMORY: a request for memory failed. */
+PEG_API uint32_t peg_parser_profile(peg_parser *parser, const uint8_t *text, size_t text_length, const uint8_t *start,
+                                    size_t start_length, uint32_t memo, uint64_t steps, peg_line *out);
 
 /* Makes `out` another handle of the answer that `match` holds, as `peg_grammar_share` does for a grammar. */
 PEG_API uint32_t peg_match_share(peg_match *match, peg_match *out);

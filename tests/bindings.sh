@@ -100,7 +100,7 @@ else
   echo "SKIPPED: rows.rs, there is no rustc"
 fi
 
-# The rows of each text, beside those of the tool.
+# The rows and the profile of each text, beside those of the tool.
 texts=0
 for grammar in examples/*.peg examples/cookbook/*.peg; do
   for text in "${grammar%.peg}"/*; do
@@ -112,10 +112,13 @@ for grammar in examples/*.peg examples/cookbook/*.peg; do
       [ "$status" = "$want_status" ] || fault "$rows: status $status and not $want_status: $grammar $text"
       cmp "$work/want" "$work/got" || fault "$rows: other rows: $grammar $text"
     done
+    "$program" profile "$grammar" "$text" --steps 1000000 > "$work/want"
+    "$work/lines" profile "$grammar" "$text" 1000000 > "$work/got" || fault "lines: no profile: $grammar $text"
+    cmp "$work/want" "$work/got" || fault "lines: another profile: $grammar $text"
     texts=$((texts + 1))
   done
 done
-echo "rows: $texts texts"
+echo "rows and profiles: $texts texts"
 
 # The lines about each grammar, beside those of the tool, and the numbers of its rules.
 grammars=0
@@ -188,6 +191,7 @@ if command -v valgrind > /dev/null; then
   under lint examples/json.peg "$work/text"
   under lines code examples/json.peg
   under lines lint examples/lint/mistakes.peg
+  under lines profile examples/json.peg "$json" 1000000
   under misuse
   under records
   under conveniences "${statuses[@]}"
@@ -201,7 +205,7 @@ if command -v valgrind > /dev/null; then
   races helgrind threads examples/json.peg "$json"
   races helgrind shared examples/json.peg "$work/object"
   races drd shared examples/json.peg "$work/object"
-  echo "valgrind: 10 programs"
+  echo "valgrind: 11 programs"
 else
   echo "SKIPPED: the C programs under valgrind, there is none"
 fi
