@@ -24,7 +24,7 @@
  *
  * Pointers
  *   No pointer may be NULL, not even with a length of 0: pass any valid address that is aligned for its type. For bytes
- *   it may be that of a string literal.
+ *   it may be that of a string literal. `peg_bytes` and the `drop` functions, at the end of this file, take NULL.
  *   Check what malloc and calloc return, and request at least one byte: `calloc(0, ..)` may return NULL.
  *   Memory that a call writes must be initialised before, for example by calloc, or by `= {0}` in C and `= {}` in C++.
  *   It must not overlap other memory of the same call. Two handles of one call must be different variables.
@@ -53,6 +53,16 @@
 #include <stddef.h>
 #include <stdint.h>
 
+/* How the functions of the library are declared. A program that builds a shared library of its own, whose names are
+ * hidden by default, still finds those of libpeg. Define it before the header is included to declare them otherwise. */
+#ifndef PEG_API
+#ifdef __GNUC__
+#define PEG_API __attribute__((visibility("default")))
+#else
+#define PEG_API
+#endif
+#endif
+
 #ifdef __cplusplus
 extern "C" {
 #endif
@@ -68,8 +78,8 @@ extern "C" {
 
 /* A grammar handle holds a grammar, or the reason why a grammar file was refused. A match handle holds the answer to a
  * parse, and an explanation handle says where a text doesn't match. An explainer handle holds a grammar that is
- * compiled for explanations. A line handle holds a line of JSON that pegtool prints about a grammar. A parser handle
- * holds a grammar whose trees have the nodes of chosen rules. The member is private. */
+ * compiled for explanations. A line handle holds a line of JSON that pegtool prints about a grammar or a text. A parser
+ * handle holds a grammar whose trees have the nodes of chosen rules. The member is private. */
 typedef struct peg_grammar {
     void *opaque;
 } peg_grammar;
@@ -95,7 +105,11 @@ typedef struct peg_parser {
 } peg_parser;
 
 /* The initialiser of a null handle. */
+#ifdef __cplusplus
+#define PEG_NULL {}
+#else
 #define PEG_NULL {0}
+#endif
 
 /* Statuses. The first two are the results of a parse, and PEG_OK that of any call that succeeds. */
 enum peg_status {
@@ -207,44 +221,44 @@ typedef struct peg_mismatch {
  * Returns PEG_REFUSED if it is not; `out` then holds the reason.
  * Returns PEG_OUT_OF_MEMORY if a request for memory failed; `out` is then unchanged.
  * With the first two, the caller has to release `out` with `peg_grammar_free`. */
-uint32_t peg_grammar_read(const uint8_t *file, size_t file_length, peg_grammar *out);
+PEG_API uint32_t peg_grammar_read(const uint8_t *file, size_t file_length, peg_grammar *out);
 
 /* Makes `out` another handle of the grammar or the refusal that `grammar` holds. Nothing is copied, and the time is
  * constant, but for the release of what `out` held before. `grammar` is unchanged.
  * Returns PEG_OK; the caller then has to release both handles, in any order and on any threads.
  * Otherwise `out` is unchanged. PEG_WRONG_HANDLE: `grammar` is null. PEG_OUT_OF_MEMORY: a request for memory failed. */
-uint32_t peg_grammar_share(peg_grammar *grammar, peg_grammar *out);
+PEG_API uint32_t peg_grammar_share(peg_grammar *grammar, peg_grammar *out);
 
 /* Releases what a handle holds and leaves the handle null. Its memory is freed if no other handle shares it. */
-void peg_grammar_free(peg_grammar *grammar);
+PEG_API void peg_grammar_free(peg_grammar *grammar);
 
 /* Copies to `out` the line of JSON that `pegtool check` prints for a refused file, without its line end and without a
  * final null byte. If the line is longer than `out_length`, only its start is copied.
  * Returns the length of the whole line, or 0 if the handle holds no refusal. */
-size_t peg_grammar_refusal(peg_grammar *grammar, uint8_t *out, size_t out_length);
+PEG_API size_t peg_grammar_refusal(peg_grammar *grammar, uint8_t *out, size_t out_length);
 
 /* Copies to `out` the message that `pegtool explain` prints for a refused file, after the name of the file:
  * `:LINE:COLUMN: SENTENCE`, the line of the file, and a caret; or `: SENTENCE`, if the refusal has no place. Each line
  * ends with LF; there is no final null byte. If the message is longer than `out_length`, only its start is copied.
  * Returns the length of the whole message, or 0 if the handle holds no refusal. */
-size_t peg_grammar_message(peg_grammar *grammar, uint8_t *out, size_t out_length);
+PEG_API size_t peg_grammar_message(peg_grammar *grammar, uint8_t *out, size_t out_length);
 
 /* Writes the kind of a refusal, and the part of the file that it is about.
  * Returns PEG_OK, or PEG_WRONG_HANDLE if the handle holds no refusal; `out` is then unchanged. */
-uint32_t peg_grammar_refusal_info(peg_grammar *grammar, peg_refusal_info *out);
+PEG_API uint32_t peg_grammar_refusal_info(peg_grammar *grammar, peg_refusal_info *out);
 
 /* Writes the number of rules of a grammar, which is at least 1. Rules are numbered from 0, as in the file.
  * Returns PEG_OK, or PEG_WRONG_HANDLE if the handle holds no grammar; `out` is then unchanged. */
-uint32_t peg_rule_count(peg_grammar *grammar, uint32_t *out);
+PEG_API uint32_t peg_rule_count(peg_grammar *grammar, uint32_t *out);
 
 /* Copies the name of a rule to `out`, without a final null byte. If the name is longer than `out_length`, only its
  * start is copied. Returns the length of the whole name, or 0 if there is no such rule or no grammar. */
-size_t peg_rule_name(peg_grammar *grammar, uint32_t rule, uint8_t *out, size_t out_length);
+PEG_API size_t peg_rule_name(peg_grammar *grammar, uint32_t rule, uint8_t *out, size_t out_length);
 
 /* Writes the number of the rule with a name. The time is linear in the number of rules.
  * Returns PEG_OK. Otherwise `out` is unchanged. PEG_NO_SUCH_RULE: no rule has the name. PEG_WRONG_HANDLE: the handle
  * holds no grammar. */
-uint32_t peg_rule_number(peg_grammar *grammar, const uint8_t *name, size_t name_length, uint32_t *out);
+PEG_API uint32_t peg_rule_number(peg_grammar *grammar, const uint8_t *name, size_t name_length, uint32_t *out);
 
 /* ---- lines that pegtool prints about a grammar
  *
@@ -255,26 +269,27 @@ uint32_t peg_rule_number(peg_grammar *grammar, const uint8_t *name, size_t name_
  * failed. */
 
 /* The line of `pegtool code`: the instructions that the grammar compiles to. */
-uint32_t peg_code(peg_grammar *grammar, peg_line *out);
+PEG_API uint32_t peg_code(peg_grammar *grammar, peg_line *out);
 
 /* The line of `pegtool table`: what the expression of each rule can do. */
-uint32_t peg_table(peg_grammar *grammar, peg_line *out);
+PEG_API uint32_t peg_table(peg_grammar *grammar, peg_line *out);
 
 /* The line of `pegtool lint`: the warnings about the grammar, which are `{"warnings":[]}` if there are none. Texts are
  * parsed from the rule that `start` names, or from the first rule if `start` is empty. If `proved` isn't 0, there are
  * only warnings of proved kinds.
  * Returns PEG_NO_SUCH_START if no rule has the name; `out` is then unchanged. */
-uint32_t peg_lint(peg_grammar *grammar, const uint8_t *start, size_t start_length, uint32_t proved, peg_line *out);
+PEG_API uint32_t peg_lint(peg_grammar *grammar, const uint8_t *start, size_t start_length, uint32_t proved,
+                          peg_line *out);
 
 /* Makes `out` another handle of the line that `line` holds, as `peg_grammar_share` does for a grammar. */
-uint32_t peg_line_share(peg_line *line, peg_line *out);
+PEG_API uint32_t peg_line_share(peg_line *line, peg_line *out);
 
 /* Releases what a handle holds and leaves the handle null. Its memory is freed if no other handle shares it. */
-void peg_line_free(peg_line *line);
+PEG_API void peg_line_free(peg_line *line);
 
 /* Copies a line to `out`, without a final null byte. If it is longer than `out_length`, only its start is copied.
  * Returns the length of the whole line, or 0 if the handle holds no line. */
-size_t peg_line_text(peg_line *line, uint8_t *out, size_t out_length);
+PEG_API size_t peg_line_text(peg_line *line, uint8_t *out, size_t out_length);
 
 /* ---- parses */
 
@@ -286,8 +301,8 @@ size_t peg_line_text(peg_line *line, uint8_t *out, size_t out_length);
  * Otherwise `out` is unchanged. PEG_WRONG_HANDLE: `grammar` holds no grammar. PEG_NO_SUCH_START: no rule has the name.
  * PEG_TEXT_TOO_LONG: the text is too long, and the start has a rule. PEG_STEP_LIMIT: the parse takes more steps than
  * `steps`. PEG_OUT_OF_MEMORY: a request for memory failed. */
-uint32_t peg_parse(peg_grammar *grammar, const uint8_t *text, size_t text_length, const uint8_t *start,
-                   size_t start_length, uint32_t memo, uint64_t steps, peg_match *out);
+PEG_API uint32_t peg_parse(peg_grammar *grammar, const uint8_t *text, size_t text_length, const uint8_t *start,
+                           size_t start_length, uint32_t memo, uint64_t steps, peg_match *out);
 
 /* Reads a grammar file for parses whose trees have the root and the nodes of chosen rules. `shown` has a byte for each
  * rule by its number: if it is 0, nodes of the rule aren't made, and their children take their place. So a parse takes
@@ -295,19 +310,19 @@ uint32_t peg_parse(peg_grammar *grammar, const uint8_t *text, size_t text_length
  * Returns PEG_OK; the caller then has to release `out` with `peg_parser_free`.
  * Otherwise `out` is unchanged. PEG_REFUSED: the file is refused, and `peg_grammar_read` gives the reason.
  * PEG_OUT_OF_MEMORY: a request for memory failed. */
-uint32_t peg_parser_read(const uint8_t *file, size_t file_length, const uint8_t *shown, size_t shown_length,
-                         peg_parser *out);
+PEG_API uint32_t peg_parser_read(const uint8_t *file, size_t file_length, const uint8_t *shown, size_t shown_length,
+                                 peg_parser *out);
 
 /* Makes `out` another handle of the parser that `parser` holds, as `peg_grammar_share` does for a grammar. */
-uint32_t peg_parser_share(peg_parser *parser, peg_parser *out);
+PEG_API uint32_t peg_parser_share(peg_parser *parser, peg_parser *out);
 
 /* Releases what a handle holds and leaves the handle null. Its memory is freed if no other handle shares it. */
-void peg_parser_free(peg_parser *parser);
+PEG_API void peg_parser_free(peg_parser *parser);
 
 /* Parses a prefix of a text as `peg_parse` does for a grammar of the same file. Status, summary and expected terminals
  * are those of `peg_parse`, but for the number of nodes. Rule numbers are the grammar's. `parser` is unchanged. */
-uint32_t peg_parser_parse(peg_parser *parser, const uint8_t *text, size_t text_length, const uint8_t *start,
-                          size_t start_length, uint32_t memo, uint64_t steps, peg_match *out);
+PEG_API uint32_t peg_parser_parse(peg_parser *parser, const uint8_t *text, size_t text_length, const uint8_t *start,
+                                  size_t start_length, uint32_t memo, uint64_t steps, peg_match *out);
 
 /* Parses many records of one text. Each of the `record_count` records is parsed as `peg_parser_parse` parses a text of
  * its bytes alone, and gets the status, the lengths and the nodes of that call. The nodes of all records are written
@@ -323,28 +338,38 @@ uint32_t peg_parser_parse(peg_parser *parser, const uint8_t *text, size_t text_l
  * left.
  * Returns PEG_OK. Otherwise records, nodes and `out` are unchanged. PEG_WRONG_HANDLE: `parser` holds no parser.
  * PEG_NO_SUCH_START: no rule has the name. PEG_OUT_OF_MEMORY: a request for memory failed, and no record was parsed. */
-uint32_t peg_parser_records(peg_parser *parser, const uint8_t *text, size_t text_length, const uint8_t *start,
-                            size_t start_length, uint32_t memo, uint64_t steps, peg_record *records,
-                            size_t record_count, peg_node *nodes, size_t node_capacity, peg_progress *out);
+PEG_API uint32_t peg_parser_records(peg_parser *parser, const uint8_t *text, size_t text_length, const uint8_t *start,
+                                    size_t start_length, uint32_t memo, uint64_t steps, peg_record *records,
+                                    size_t record_count, peg_node *nodes, size_t node_capacity, peg_progress *out);
+
+/* Makes the line that `pegtool profile` prints for a text, without its line end, and stores it in `out`: how often the
+ * parse calls each rule, and at how many positions. docs/USAGE.md describes the line. `start`, `memo` and `steps` are
+ * those of `peg_parse`; the program's own capacity of the memo is 0 here. A parse that takes more steps than `steps` is
+ * stopped there, and has a profile, too. The rules that the parser shows don't matter. `parser` is unchanged.
+ * Returns PEG_OK; the caller then has to release `out` with `peg_line_free`.
+ * Otherwise `out` is unchanged. PEG_WRONG_HANDLE: `parser` holds no parser. PEG_NO_SUCH_START: no rule has the name.
+ * PEG_TEXT_TOO_LONG: the text is too long, and the start has a rule. PEG_OUT_OF_MEMORY: a request for memory failed. */
+PEG_API uint32_t peg_parser_profile(peg_parser *parser, const uint8_t *text, size_t text_length, const uint8_t *start,
+                                    size_t start_length, uint32_t memo, uint64_t steps, peg_line *out);
 
 /* Makes `out` another handle of the answer that `match` holds, as `peg_grammar_share` does for a grammar. */
-uint32_t peg_match_share(peg_match *match, peg_match *out);
+PEG_API uint32_t peg_match_share(peg_match *match, peg_match *out);
 
 /* Releases what a handle holds and leaves the handle null. Its memory is freed if no other handle shares it. */
-void peg_match_free(peg_match *match);
+PEG_API void peg_match_free(peg_match *match);
 
 /* Writes the summary of an answer.
  * Returns PEG_OK, or PEG_WRONG_HANDLE if the handle holds no answer; `out` is then unchanged. */
-uint32_t peg_match_summary(peg_match *match, peg_summary *out);
+PEG_API uint32_t peg_match_summary(peg_match *match, peg_summary *out);
 
 /* Copies the nodes of the parse tree, from number `from` on, to `out`: as many as there are and fit.
  * Returns their number, which is 0 if the handle holds no tree. The rest of `out` is unchanged. */
-size_t peg_match_nodes(peg_match *match, size_t from, peg_node *out, size_t out_length);
+PEG_API size_t peg_match_nodes(peg_match *match, size_t from, peg_node *out, size_t out_length);
 
 /* Copies the spans in the grammar file of the terminals that failed at the furthest position, in ascending order of the
  * terminals, from number `from` on, to `out`: as many as there are and fit.
  * Returns their number, which is 0 if the handle holds no answer. The rest of `out` is unchanged. */
-size_t peg_match_expected(peg_match *match, size_t from, peg_span *out, size_t out_length);
+PEG_API size_t peg_match_expected(peg_match *match, size_t from, peg_span *out, size_t out_length);
 
 /* ---- explanations */
 
@@ -357,67 +382,131 @@ size_t peg_match_expected(peg_match *match, size_t from, peg_span *out, size_t o
  * Returns PEG_OK if the text matches as a whole; `out` is then unchanged.
  * Returns PEG_FAILED if it doesn't; `out` then holds the explanation, and the caller has to release it with
  * `peg_explanation_free`. The other statuses are those of `peg_parse`, and leave `out` unchanged. */
-uint32_t peg_explain(peg_grammar *grammar, const uint8_t *name, size_t name_length, const uint8_t *text,
-                     size_t text_length, const uint8_t *start, size_t start_length, uint32_t memo, uint64_t steps,
-                     peg_explanation *out);
+PEG_API uint32_t peg_explain(peg_grammar *grammar, const uint8_t *name, size_t name_length, const uint8_t *text,
+                             size_t text_length, const uint8_t *start, size_t start_length, uint32_t memo,
+                             uint64_t steps, peg_explanation *out);
 
 /* Makes `out` another handle of the explanation that `explanation` holds, as `peg_grammar_share` does for a grammar. */
-uint32_t peg_explanation_share(peg_explanation *explanation, peg_explanation *out);
+PEG_API uint32_t peg_explanation_share(peg_explanation *explanation, peg_explanation *out);
 
 /* Reads a grammar file, and compiles the larger grammar by which explanations parse. `peg_explainer_explain` doesn't
  * compile it again.
  * Returns PEG_OK; the caller then has to release `out` with `peg_explainer_free`.
  * Otherwise `out` is unchanged. PEG_REFUSED: the file is refused, and `peg_grammar_read` gives the reason.
  * PEG_OUT_OF_MEMORY: a request for memory failed. */
-uint32_t peg_explainer_read(const uint8_t *file, size_t file_length, peg_explainer *out);
+PEG_API uint32_t peg_explainer_read(const uint8_t *file, size_t file_length, peg_explainer *out);
 
 /* Makes `out` another handle of the explainer that `explainer` holds, as `peg_grammar_share` does for a grammar. */
-uint32_t peg_explainer_share(peg_explainer *explainer, peg_explainer *out);
+PEG_API uint32_t peg_explainer_share(peg_explainer *explainer, peg_explainer *out);
 
 /* Releases what a handle holds and leaves the handle null. Its memory is freed if no other handle shares it. */
-void peg_explainer_free(peg_explainer *explainer);
+PEG_API void peg_explainer_free(peg_explainer *explainer);
 
 /* Explains where a text doesn't match as a whole. The explanation, the steps and the statuses are those of
  * `peg_explain` for a grammar of the same file. `explainer` is unchanged. */
-uint32_t peg_explainer_explain(peg_explainer *explainer, const uint8_t *name, size_t name_length, const uint8_t *text,
-                               size_t text_length, const uint8_t *start, size_t start_length, uint32_t memo,
-                               uint64_t steps, peg_explanation *out);
+PEG_API uint32_t peg_explainer_explain(peg_explainer *explainer, const uint8_t *name, size_t name_length,
+                                       const uint8_t *text, size_t text_length, const uint8_t *start,
+                                       size_t start_length, uint32_t memo, uint64_t steps, peg_explanation *out);
 
 /* Releases what a handle holds and leaves the handle null. Its memory is freed if no other handle shares it. */
-void peg_explanation_free(peg_explanation *explanation);
+PEG_API void peg_explanation_free(peg_explanation *explanation);
 
 /* Copies the message to `out`: `NAME:LINE:COLUMN: expected ITEMS, found WORD`, the line of the text, and a caret.
  * If the grammar is too large for an analysis of its items, a line with a note follows. Each line ends with LF; there
  * is no final null byte. If the message is longer than `out_length`, only its start is copied. Returns the length of
  * the whole message, or 0 if the handle holds no explanation. */
-size_t peg_explanation_message(peg_explanation *explanation, uint8_t *out, size_t out_length);
+PEG_API size_t peg_explanation_message(peg_explanation *explanation, uint8_t *out, size_t out_length);
 
 /* Writes the position where the text doesn't match, and how much is expected there.
  * Returns PEG_OK, or PEG_WRONG_HANDLE if the handle holds no explanation; `out` is then unchanged. */
-uint32_t peg_explanation_mismatch(peg_explanation *explanation, peg_mismatch *out);
+PEG_API uint32_t peg_explanation_mismatch(peg_explanation *explanation, peg_mismatch *out);
 
 /* Copies the spans in the grammar file of the items that are expected at the position, in ascending order of the items,
  * from number `from` on, to `out`: as many as there are and fit.
  * Returns their number, which is 0 if the handle holds no explanation. The rest of `out` is unchanged. */
-size_t peg_explanation_expected(peg_explanation *explanation, size_t from, peg_span *out, size_t out_length);
+PEG_API size_t peg_explanation_expected(peg_explanation *explanation, size_t from, peg_span *out, size_t out_length);
 
 /* ---- positions, and the library itself */
 
 /* Writes the line and the column of an offset of a file or a text. The time is linear in the offset.
  * Returns PEG_OK, or PEG_OUT_OF_RANGE if the offset is greater than the length or than 2,147,483,647; `out` is then
  * unchanged. */
-uint32_t peg_locate(const uint8_t *text, size_t text_length, size_t offset, peg_location *out);
+PEG_API uint32_t peg_locate(const uint8_t *text, size_t text_length, size_t offset, peg_location *out);
 
 /* Returns the number of the binary interface. If it isn't PEG_ABI, the library doesn't fit this header. */
-uint32_t peg_abi(void);
+PEG_API uint32_t peg_abi(void);
 
 /* Copies the name of a status to `out`, such as PEG_OK, without a final null byte. If it is longer than `out_length`,
  * only its start is copied. Returns the length of the whole name, or 0 for a number that is no status. */
-size_t peg_status_name(uint32_t status, uint8_t *out, size_t out_length);
+PEG_API size_t peg_status_name(uint32_t status, uint8_t *out, size_t out_length);
 
 /* Copies the version of the library to `out`, such as 0.1.0, without a final null byte. If it is longer than
  * `out_length`, only its start is copied. Returns the length of the whole version. */
-size_t peg_version(uint8_t *out, size_t out_length);
+PEG_API size_t peg_version(uint8_t *out, size_t out_length);
+
+/* ---- conveniences
+ *
+ * These functions are compiled as a part of the program that includes this file, and call the ones above. */
+
+/* Returns the address of bytes, as the calls above take it, or any valid address if `bytes` is NULL. So bytes of any
+ * type can be passed, and NULL with a length of 0:
+ * `peg_parse(&grammar, peg_bytes(line), length, peg_bytes(NULL), 0, PEG_DEFAULT_MEMO, 0, &match)`. */
+static inline const uint8_t *peg_bytes(const void *bytes) {
+#ifdef __cplusplus
+    return static_cast<const uint8_t *>(bytes ? bytes : "");
+#else
+    return (const uint8_t *)(bytes ? bytes : "");
+#endif
+}
+
+/* Returns the name of a status for a message, such as "PEG_OK", or "" for a number that is no status. It is the name
+ * that `peg_status_name` copies, as a string that needn't be freed. */
+static inline const char *peg_status_string(uint32_t status) {
+    static const char *const names[] = {
+        "PEG_OK",           "PEG_FAILED",        "PEG_REFUSED",    "PEG_NO_SUCH_START",
+        "PEG_WRONG_HANDLE", "PEG_OUT_OF_MEMORY", "PEG_STEP_LIMIT", "PEG_TEXT_TOO_LONG",
+        "PEG_OUT_OF_RANGE", "PEG_NO_SUCH_RULE",
+    };
+    return status < sizeof names / sizeof *names ? names[status] : "";
+}
+
+/* Each of these functions releases what a handle holds, as the `free` function of its type does, and leaves the handle
+ * null. It does nothing if the pointer is NULL. */
+static inline void peg_grammar_drop(peg_grammar *grammar) {
+    if (grammar) {
+        peg_grammar_free(grammar);
+    }
+}
+
+static inline void peg_line_drop(peg_line *line) {
+    if (line) {
+        peg_line_free(line);
+    }
+}
+
+static inline void peg_parser_drop(peg_parser *parser) {
+    if (parser) {
+        peg_parser_free(parser);
+    }
+}
+
+static inline void peg_match_drop(peg_match *match) {
+    if (match) {
+        peg_match_free(match);
+    }
+}
+
+static inline void peg_explainer_drop(peg_explainer *explainer) {
+    if (explainer) {
+        peg_explainer_free(explainer);
+    }
+}
+
+static inline void peg_explanation_drop(peg_explanation *explanation) {
+    if (explanation) {
+        peg_explanation_free(explanation);
+    }
+}
 
 #ifdef __cplusplus
 }

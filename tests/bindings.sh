@@ -19,7 +19,7 @@ fault() {
 tools/c_library.sh "${@:2}" || exit 1
 
 # The names that the libraries show are those of the header.
-grep -o '\bpeg_[a-z_]* *(' include/peg.h | tr -d ' (' | sort -u > "$work/declared"
+grep -o '^PEG_API .*\bpeg_[a-z_]*(' include/peg.h | grep -o 'peg_[a-z_]*(' | tr -d '(' | sort -u > "$work/declared"
 nm -D --defined-only out/lib/libpeg.so | awk '$2 == "T" && sub(/@@LIBPEG_1$/, "", $3) { print $3 }' |
   sort -u > "$work/shared"
 nm -g --defined-only out/lib/libpeg.a 2> /dev/null | awk 'NF == 3 { print $3 }' | sort -u > "$work/static"
@@ -50,11 +50,29 @@ compile lint examples/c/lint.c $archive
 compile lines tests/c/lines.c $archive
 compile misuse tests/c/misuse.c $archive
 compile freed tests/c/freed.c $archive
+compile conveniences tests/c/conveniences.c $archive
 compile records tests/c/records.c $archive
 compile memory tests/c/memory.c $archive $wrap
 compile threads tests/c/threads.c $archive -pthread
 compile shared tests/c/shared.c $archive -pthread
 compile stack tests/c/stack.c $archive -pthread
+# The header has no warning in three standards, and a test uses each function that it defines.
+printf '#include "peg.h"\nint main(void) { peg_grammar grammar = PEG_NULL; peg_grammar_drop(&grammar); return 0; }\n' \
+  > "$work/header.c"
+clean() { # the words of a compiler
+  if ! command -v "$1" > /dev/null; then echo "SKIPPED: the header's warnings by $1"; return; fi
+  "$@" -Wall -Wextra -Wpedantic -Werror -Iinclude -c -o /dev/null "$work/header.c" || fault "the header has warnings: $*"
+}
+few=(-Wno-padded -Wno-declaration-after-statement -Wno-unknown-warning-option -Wno-unsafe-buffer-usage)
+for words in "c -std=c99" "c -std=c11" "c++ -std=c++17"; do
+  # shellcheck disable=SC2086 # the language and its standard are two words
+  { clean gcc -x $words; clean clang -x $words -Weverything "${few[@]}"; }
+done
+sed -n 's/^static inline .*\(peg_[a-z_]*\)(.*/\1/p' include/peg.h > "$work/defined"
+[ -s "$work/defined" ] || fault "the header defines no function"
+while IFS= read -r name; do
+  grep -q "\b$name(" tests/c/conveniences.c || fault "conveniences.c doesn't use $name"
+done < "$work/defined"
 # In C++ the outputs of calls are initialised by `= {}`. The header has the interface and the version of the library.
 cat > "$work/abi.cc" << 'PROGRAM'
 #include <cstdio>
@@ -82,7 +100,7 @@ else
   echo "SKIPPED: rows.rs, there is no rustc"
 fi
 
-# The rows of each text, beside those of the tool.
+# The rows and the profile of each text, beside those of the tool.
 texts=0
 for grammar in examples/*.peg examples/cookbook/*.peg; do
   for text in "${grammar%.peg}"/*; do
@@ -94,10 +112,13 @@ for grammar in examples/*.peg examples/cookbook/*.peg; do
       [ "$status" = "$want_status" ] || fault "$rows: status $status and not $want_status: $grammar $text"
       cmp "$work/want" "$work/got" || fault "$rows: other rows: $grammar $text"
     done
+    "$program" profile "$grammar" "$text" --steps 1000000 > "$work/want"
+    "$work/lines" profile "$grammar" "$text" 1000000 > "$work/got" || fault "lines: no profile: $grammar $text"
+    cmp "$work/want" "$work/got" || fault "lines: another profile: $grammar $text"
     texts=$((texts + 1))
   done
 done
-echo "rows: $texts texts"
+echo "rows and profiles: $texts texts"
 
 # The lines about each grammar, beside those of the tool, and the numbers of its rules.
 grammars=0
@@ -142,6 +163,8 @@ cmp "$work/want" "$work/got" || fault "lint: another message for a refused file"
 
 "$work/misuse" || fault "misuse"
 "$work/records" || fault "records"
+mapfile -t statuses < <(sed -n '/^enum peg_status/,/^}/s/^ *\(PEG_[A-Z_]*\) = \([0-9]*\).*/\1=\2/p' include/peg.h)
+"$work/conveniences" "${statuses[@]}" || fault "conveniences"
 printf '{"a": [1, "b"]}' > "$work/object"
 "$work/freed" examples/json.peg "$work/object" || fault "freed"
 json=$(find examples/json -type f | sort | head -n 1)
@@ -168,8 +191,10 @@ if command -v valgrind > /dev/null; then
   under lint examples/json.peg "$work/text"
   under lines code examples/json.peg
   under lines lint examples/lint/mistakes.peg
+  under lines profile examples/json.peg "$json" 1000000
   under misuse
   under records
+  under conveniences "${statuses[@]}"
   under freed examples/json.peg "$work/object"
   under memory examples/json.peg "$json"
   under shared examples/json.peg "$work/object"
@@ -180,7 +205,7 @@ if command -v valgrind > /dev/null; then
   races helgrind threads examples/json.peg "$json"
   races helgrind shared examples/json.peg "$work/object"
   races drd shared examples/json.peg "$work/object"
-  echo "valgrind: 9 programs"
+  echo "valgrind: 11 programs"
 else
   echo "SKIPPED: the C programs under valgrind, there is none"
 fi

@@ -35,7 +35,7 @@ static int lint_text(peg_grammar *grammar, const char *path) {
     size_t length;
     uint8_t *text = read_file(path, &length);
     peg_explanation explanation = PEG_NULL;
-    uint32_t status = peg_explain(grammar, (const uint8_t *)path, strlen(path), text, length, (const uint8_t *)"", 0,
+    uint32_t status = peg_explain(grammar, peg_bytes(path), strlen(path), text, length, peg_bytes(NULL), 0,
                                   PEG_DEFAULT_MEMO, 0, &explanation);
     if (status == PEG_FAILED) {
         print_message(&explanation);

@@ -103,8 +103,7 @@ int main(int argc, char **argv) {
     if (status == PEG_REFUSED) {
         print_refusal(&grammar);
     } else if (status == PEG_OK) {
-        const uint8_t *first_rule = (const uint8_t *)"";
-        status = peg_parse(&grammar, text, text_length, first_rule, 0, PEG_DEFAULT_MEMO, 0, &match);
+        status = peg_parse(&grammar, text, text_length, peg_bytes(NULL), 0, PEG_DEFAULT_MEMO, 0, &match);
         if (status == PEG_OK || status == PEG_FAILED) {
             print_answer(&grammar, &match);
         }

@@ -362,6 +362,33 @@ class Grammar:
         found: List[Dict[str, Any]] = json_of(status, line)["warnings"]
         return found
 
+    def profile(
+        self,
+        data: Union[str, Buffer, Text[Any]],
+        start: Optional[str] = None,
+        *,
+        memo: int = 0,
+        steps: Optional[int] = None,
+    ) -> Dict[str, Any]:
+        """How often the parse of a text calls each rule, and at how many positions: what `pegtool profile` prints, as
+        JSON is read.
+
+        >>> Grammar("S <- 'a' S / 'b'").profile("aab")["rules"]
+        [{'again': 0, 'calls': 3, 'places': 3, 'rule': 'S'}]
+
+        The parse takes a prefix of the text. It has no memo unless `memo` gives a capacity, so that all calls are
+        counted. If it takes more steps than `steps`, its `result` is `stopped`, and the calls made so far are counted.
+        Raises `NoSuchRuleError` if no rule has the name of the start, `TextTooLongError` for a text over the limit, and
+        `MemoryError` if memory runs out.
+        """
+        options = options_of(start, memo, steps)
+        parser = self._selecting(frozenset(self.rules))
+        status, line = parser.profile(text_of(data).data, options)
+        if status != OK:
+            raise fault(status, options)
+        found: Dict[str, Any] = json.loads(line)
+        return found
+
     def is_leaf(self, rule: str, hidden: Iterable[str] = ()) -> bool:
         """Whether nodes of a rule never have children: the rule calls no other outside predicates, or only hidden rules
         that never have children that aren't hidden. The first use with some hidden rules takes time linear in the

@@ -136,6 +136,17 @@ DECLARATIONS: Dict[str, Tuple[Any, ...]] = {
         c_size_t,
         POINTER(PegProgress),
     ),
+    "peg_parser_profile": (
+        c_uint32,
+        POINTER(Handle),
+        c_void_p,
+        c_size_t,
+        c_char_p,
+        c_size_t,
+        c_uint32,
+        c_uint64,
+        POINTER(Handle),
+    ),
     "peg_match_free": (None, POINTER(Handle)),
     "peg_match_summary": (c_uint32, POINTER(Handle), POINTER(PegSummary)),
     "peg_match_nodes": (c_size_t, POINTER(Handle), c_size_t, POINTER(PegNode), c_size_t),
@@ -380,6 +391,13 @@ class ParserHandle(ParsingHandle):
         )
         parsed, used = records.part(0, progress.records), nodes.part(0, progress.nodes)
         return status, parsed, used, progress.wanted
+
+    def profile(self, text: bytes, options: Options) -> Tuple[int, bytes]:
+        """The line of the profile of a text's parse, after the status."""
+        words = options.words()
+        return line_of(
+            lambda out: LIBRARY.peg_parser_profile(byref(self.raw), address(text, 0), len(text), *words, out)
+        )
 
 
 class GrammarHandle(ParsingHandle):

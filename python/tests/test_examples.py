@@ -53,6 +53,25 @@ class Program(unittest.TestCase):
             proved = json.loads(self.line("lint", path, "--proved"))
             self.assertEqual({"warnings": grammar.warnings(grammar.rules[0], proved=True)}, proved, path)
 
+    def test_profiles_of_examples_are_those_of_the_program(self):
+        compared = 0
+        for path in grammars():
+            grammar = Grammar.from_file(path)
+            start = grammar.rules[-1]
+            for text in texts(path):
+                with open(text, "rb") as file:
+                    data = file.read()
+                for words, options in (
+                    (("--steps", "1000000"), {"steps": 1_000_000}),
+                    (("--steps", "100"), {"steps": 100}),
+                    (("--memo", "4096"), {"memo": 4096}),
+                    (("--start", start, "--memo", "4096"), {"start": start, "memo": 4096}),
+                ):
+                    printed = json.loads(self.line("profile", path, text, *words))
+                    self.assertEqual(grammar.profile(data, **options), printed, (text, words))
+                    compared += 1
+        self.assertGreater(compared, 160)
+
     def test_lines_of_examples_without_the_nodes_of_a_rule_are_those_of_the_program(self):
         for path in grammars():
             grammar = Grammar.from_file(path)

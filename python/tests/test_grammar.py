@@ -16,6 +16,7 @@ from pegtool import (
     NoSuchRuleError,
     ParseError,
     StepLimitError,
+    Text,
     TextTooLongError,
     version,
 )
@@ -71,6 +72,33 @@ class Known(unittest.TestCase):
         grammar = Grammar("S <- T .\nT <- 'a'\n")
         self.assertEqual([warning["kind"] for warning in grammar.warnings()], ["AnyAtEnd"])
         self.assertEqual(grammar.warnings(proved=True), [])
+
+
+    def test_a_profile_counts_calls_and_positions(self):
+        # A takes 6 steps on a, and on (t)y it takes 12 and twice those of t: 60 here, and one more at the end.
+        grammar = Grammar("A <- '(' A ')' 'x' / '(' A ')' 'y' / 'a'\n")
+        rules = [{"again": 4, "calls": 7, "places": 3, "rule": "A"}]
+        self.assertEqual(
+            grammar.profile("((a)y)y"), {"consumed": 7, "result": "matched", "rules": rules, "steps": 61}
+        )
+        self.assertEqual(grammar.profile("((a)y)y", memo=4096)["rules"][0]["places"], 3)
+
+    def test_a_profile_of_a_failure_has_the_calls_too(self):
+        grammar = Grammar("S <- T 'b'\nT <- 'a'\n")
+        rules = [{"again": 0, "calls": 1, "places": 1, "rule": rule} for rule in "ST"]
+        self.assertEqual(grammar.profile(b"aa"), {"result": "failed", "rules": rules, "steps": 4})
+        rules[0] = {"again": 0, "calls": 0, "places": 0, "rule": "S"}
+        matched = {"consumed": 1, "result": "matched", "rules": rules, "steps": 3}
+        self.assertEqual(grammar.profile(Text("aa"), "T"), matched)
+        self.assertRaises(NoSuchRuleError, grammar.profile, "aa", "U")
+        self.assertRaises(TypeError, grammar.profile, 1)
+
+    def test_a_profile_stops_at_the_limit_of_steps(self):
+        # A call of S with n letters before the b takes 5n + 4 steps, and the end one more: 15 here.
+        grammar = Grammar(CHAIN)
+        rules = [{"again": 0, "calls": 3, "places": 3, "rule": "S"}]
+        self.assertEqual(grammar.profile("aab", steps=15)["result"], "matched")
+        self.assertEqual(grammar.profile("aab", steps=14), {"result": "stopped", "rules": rules, "steps": 14})
 
 
 class Refusals(unittest.TestCase):

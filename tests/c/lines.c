@@ -1,5 +1,6 @@
-/* lines COMMAND GRAMMAR: prints the line of the command `code`, `table` or `lint` for a grammar file, or with `names`
- * the number of each rule, found by its name. Ends with the status of the call. */
+/* lines COMMAND GRAMMAR [TEXT STEPS]: prints the line of the command `code`, `table` or `lint` for a grammar file, or
+ * with `names` the number of each rule, found by its name. With `profile` it prints the line for a text, with this limit
+ * of steps. Ends with the status of the call. */
 #include "../../examples/c/files.h"
 #include "peg.h"
 
@@ -14,6 +15,21 @@ static uint32_t make_line(const char *command, peg_grammar *grammar, peg_line *o
         return peg_table(grammar, out);
     }
     return peg_lint(grammar, (const uint8_t *)"", 0, 0, out);
+}
+
+/* The profile of a text's parse by a parser that makes no nodes but the root. */
+static uint32_t make_profile(const uint8_t *file, size_t length, const char *path, const char *steps, peg_line *out) {
+    peg_parser parser = PEG_NULL;
+    size_t text_length;
+    uint8_t *text = read_file(path, &text_length);
+    uint32_t status = peg_parser_read(file, length, peg_bytes(NULL), 0, &parser);
+    if (status == PEG_OK) {
+        uint64_t limit = strtoull(steps, NULL, 10);
+        status = peg_parser_profile(&parser, text, text_length, peg_bytes(NULL), 0, 0, limit, out);
+    }
+    peg_parser_free(&parser);
+    free(text);
+    return status;
 }
 
 static void print_line(peg_line *line) {
@@ -43,8 +59,8 @@ static void print_numbers(peg_grammar *grammar) {
 }
 
 int main(int argc, char **argv) {
-    if (argc != 3) {
-        fputs("usage: lines COMMAND GRAMMAR\n", stderr);
+    if (argc != 3 && argc != 5) {
+        fputs("usage: lines COMMAND GRAMMAR [TEXT STEPS]\n", stderr);
         return 3;
     }
     size_t length;
@@ -54,6 +70,9 @@ int main(int argc, char **argv) {
     uint32_t status = peg_grammar_read(file, length, &grammar);
     if (status == PEG_OK && strcmp(argv[1], "names") == 0) {
         print_numbers(&grammar);
+    } else if (status == PEG_OK && argc == 5) {
+        status = make_profile(file, length, argv[3], argv[4], &line);
+        print_line(&line);
     } else if (status == PEG_OK) {
         status = make_line(argv[1], &grammar, &line);
         print_line(&line);

@@ -1,6 +1,6 @@
 /* memory GRAMMAR TEXT: refuses each request for memory of a reading, a parse, an explanation, the same by an explainer,
- * of reading a parser of no rules, a parse by it and a parse of two records, of lines about the grammar, and of sharing
- * a handle in turn, alone and with all later ones. Each call has to return PEG_OUT_OF_MEMORY, leave the
+ * of reading a parser of no rules, a parse by it, a parse of two records and a profile, of lines about the grammar, and
+ * of sharing a handle in turn, alone and with all later ones. Each call has to return PEG_OUT_OF_MEMORY, leave the
  * handles as they were and release what it requested, or to have the answer. It makes at most ten times the requests
  * and the steps that it takes without a refusal. The text to be explained is all but the last byte of TEXT. Link it
  * with the linker's options --wrap=malloc, --wrap=realloc and --wrap=free. */
@@ -258,6 +258,23 @@ static long refuse_in_records(peg_parser *parser, const uint8_t *text, size_t le
     }
 }
 
+static long refuse_in_a_profile(peg_parser *parser, const uint8_t *text, size_t length) {
+    for (long n = -1;; n++) {
+        peg_line line = PEG_NULL;
+        long before = blocks;
+        void *held = parser->opaque;
+        refuse_request(n);
+        uint32_t status =
+            peg_parser_profile(parser, text, length, (const uint8_t *)"", 0, PEG_DEFAULT_MEMO, 0, &line);
+        int is_unchanged = line.opaque == NULL && parser->opaque == held;
+        int more = was_refused(status == PEG_OK, status, is_unchanged, before, n);
+        peg_line_free(&line);
+        if (!more) {
+            return n;
+        }
+    }
+}
+
 static void refuse_in_parsers(const uint8_t *file, size_t file_length, const uint8_t *text, size_t text_length) {
     long reading = refuse_in_reading_a_parser(file, file_length);
     peg_parser parser = PEG_NULL;
@@ -267,9 +284,11 @@ static void refuse_in_parsers(const uint8_t *file, size_t file_length, const uin
     }
     long parse = refuse_in_parsing_by(&parser, text, text_length, PEG_DEFAULT_MEMO);
     long records = refuse_in_records(&parser, text, text_length);
+    long profile = refuse_in_a_profile(&parser, text, text_length);
     peg_parser_free(&parser);
-    printf("memory: refused %ld requests of reading a parser, %ld of a parse by it, %ld of two records%s\n", reading,
-           parse, records, is_lasting ? ", each with all later ones" : "");
+    printf("memory: refused %ld requests of reading a parser, %ld of a parse by it, %ld of two records, %ld of a "
+           "profile%s\n",
+           reading, parse, records, profile, is_lasting ? ", each with all later ones" : "");
 }
 
 static uint32_t lint(peg_grammar *grammar, peg_line *out) {

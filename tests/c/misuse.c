@@ -368,6 +368,36 @@ static void warnings_are_selected(void) {
     peg_grammar_free(&grammar);
 }
 
+static uint32_t profile(peg_parser *parser, const char *text, const char *start, uint64_t steps, peg_line *out) {
+    return peg_parser_profile(parser, bytes(text), strlen(text), bytes(start), strlen(start), 0, steps, out);
+}
+
+/* The lines are those of tests/cases/commands/profile.t, which are worked out by hand. */
+static void profiles_count_calls(void) {
+    peg_parser parser = PEG_NULL;
+    peg_grammar grammar = PEG_NULL;
+    peg_line line = PEG_NULL;
+    CHECK(profile(&parser, "aab", "", 0, &line) == PEG_WRONG_HANDLE && line.opaque == NULL);
+    CHECK(peg_parser_read(bytes("S <- 'a' S / 'b'"), 16, bytes(""), 0, &parser) == PEG_OK);
+    CHECK(profile(&parser, "aab", "", 0, &line) == PEG_OK);
+    CHECK(is_line(&line, "{\"consumed\":3,\"result\":\"matched\",\"rules\":[{\"again\":0,\"calls\":3,\"places\":3,"
+                         "\"rule\":\"S\"}],\"steps\":15}"));
+    CHECK(profile(&parser, "aab", "S", 14, &line) == PEG_OK);
+    CHECK(is_line(&line, "{\"result\":\"stopped\",\"rules\":[{\"again\":0,\"calls\":3,\"places\":3,\"rule\":\"S\"}],"
+                         "\"steps\":14}"));
+    void *before = line.opaque;
+    CHECK(profile(&parser, "aab", "T", 0, &line) == PEG_NO_SUCH_START && line.opaque == before);
+    CHECK(read_grammar("S <- 'a'", &grammar) == PEG_OK);
+    CHECK(profile((peg_parser *)&grammar, "a", "", 0, &line) == PEG_WRONG_HANDLE && line.opaque == before);
+    CHECK(peg_parser_read(bytes("S <- T 'b'\nT <- 'a'"), 19, bytes("\1\1"), 2, &parser) == PEG_OK);
+    CHECK(profile(&parser, "aa", "T", 0, &line) == PEG_OK);
+    CHECK(is_line(&line, "{\"consumed\":1,\"result\":\"matched\",\"rules\":[{\"again\":0,\"calls\":0,\"places\":0,"
+                         "\"rule\":\"S\"},{\"again\":0,\"calls\":1,\"places\":1,\"rule\":\"T\"}],\"steps\":3}"));
+    peg_line_free(&line);
+    peg_parser_free(&parser);
+    peg_grammar_free(&grammar);
+}
+
 static void rules_have_numbers(void) {
     peg_grammar grammar = PEG_NULL;
     uint32_t number = 9;
@@ -405,6 +435,7 @@ int main(void) {
     shown_rules_change_no_failure();
     lines_are_those_of_pegtool();
     warnings_are_selected();
+    profiles_count_calls();
     rules_have_numbers();
     statuses_have_names();
     printf("misuse: %d tests, %d failed\n", tests, failures);

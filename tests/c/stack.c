@@ -137,6 +137,10 @@ static void parse_records(void) {
                        &progress);
 }
 
+static void profile(void) {
+    peg_parser_profile(&parser, TEXT, sizeof TEXT - 1, TEXT, 0, 0, STEPS, &json);
+}
+
 static void parse(void) { peg_parse(&grammar, TEXT, sizeof TEXT - 1, TEXT, 0, 0, STEPS, &match); }
 
 static void parse_by_name(void) {
@@ -246,6 +250,7 @@ static const struct {
     {"peg_parser_read", read_parser},
     {"peg_parser_parse", parse_by_parser},
     {"peg_parser_records", parse_records},
+    {"peg_parser_profile", profile},
     {"peg_parse without a memo", parse},
     {"peg_parse with a memo", parse_by_name},
     {"peg_match_summary", summary},

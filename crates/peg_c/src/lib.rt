@@ -9,6 +9,7 @@ pub mod laws;
 mod lines;
 mod matches;
 mod parsers;
+mod profiles;
 mod raw_box;
 mod records;
 mod sharing;

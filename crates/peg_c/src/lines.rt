@@ -87,8 +87,8 @@ pub extern "C" fn peg_lint(
     }
 }
 
-// Stores a line in a handle, or returns the status that says why there is none.
-fn store_line(alloc: Global, made: Result<PrintedLine, u32>, out: &mut Handle) -> u32
+/// Stores a line in a handle, or returns the status that says why there is none.
+pub(crate) fn store_line(alloc: Global, made: Result<PrintedLine, u32>, out: &mut Handle) -> u32
     requires { IfErr made (λ status. status ≢ DONE) }
     ensures stored { IfOk made (λ line. result ≡ DONE → out.new.content ≡ Some (Printed line)) }
     ensures memory { OnOk made (result ≢ DONE → result ≡ OUT_OF_MEMORY) }

@@ -2,6 +2,7 @@ mod AnswerLemmas
 mod ExplanationLemmas
 mod LevelLemmas
 mod NodeLemmas
+mod ProfileLemmas
 mod RecordLemmas
 mod RejectionLemmas
 mod SpanLemmas

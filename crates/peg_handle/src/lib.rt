@@ -12,6 +12,7 @@ mod nodes;
 mod parsing;
 mod printing;
 mod printing_calls;
+mod profiling;
 mod reading;
 mod record_answers;
 mod record_calls;
@@ -45,6 +46,7 @@ pub use printing::{print_code, print_table, print_warnings};
 pub use printing_calls::{
     copy_line_of, print_code_of, print_table_of, print_warnings_of, write_rule_number,
 };
+pub use profiling::{print_profile, print_profile_of};
 pub use reading::{ReadFault, read, read_explainer};
 pub use record_calls::parse_records_by;
 pub use records::{RecordProgress, RecordTask, TextRecord, parse_records};
