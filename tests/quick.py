@@ -51,7 +51,10 @@ def small(path: pathlib.Path) -> bytes:
 
 
 def of_words(words: list[str], folder: str) -> tuple[bytes, list[str]] | None:
-    """The standard input and the arguments that stand for a command on files of a folder."""
+    """The standard input and the arguments that stand for a command on files of a folder. Messages for people have the
+    name of the file, which is another one here."""
+    if "--human" in words:
+        return None
     try:
         contents = [small(pathlib.Path(folder, word)) for word in words[1:3]]
     except OSError:

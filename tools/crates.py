@@ -41,6 +41,7 @@ PURPOSE = {
     "peg_explain_files": "names of files -> messages, a verdict",
     "peg_explain_records": "names of texts -> the messages of their records, a verdict",
     "peg_test_files": "names of folders -> messages, counts, a verdict",
+    "peg_lint_files": "the name of a grammar file -> messages of its warnings, a verdict",
     "peg_coverage": "a grammar, texts -> the rules and alternatives that they use",
     "peg_coverage_files": "names of texts -> what they use",
     "peg_profile": "a parser, a text -> the calls of each rule",

@@ -101,6 +101,8 @@ COMMANDS = [
     "lint warned.peg --start T",
     "lint warned.peg --start V",
     "lint habits.peg --proved",
+    *(f"lint {name}.peg --human" for name in ["chain", "warned", "habits", "open", "cycle", "missing"]),
+    "lint warned.peg --human --start V",
     *(f"explain {name}.peg" for name in ["chain", *REFUSED]),
     "explain counts.peg counts.txt chain.txt",
     "explain counts.peg chain.txt --rules",

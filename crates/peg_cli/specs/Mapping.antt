@@ -5,7 +5,7 @@ use Rattle.clap.specs.Matches.{first_value, matched_of, one_text, raw_values}
 use Rattle.clap.specs.declared.parser.matches.Found.{Found}
 use Rattle.peg_cli.specs.Words.{default_coverage_memo, default_profile_memo}
 use Rattle.peg_cli.specs.declared.words.Words.{Words}
-use Rattle.peg_cli.specs.declared.words.Words.TheVariants.{Joined, Help, Table, Check, Code, Lint, Profile, Coverage, RecordCoverage, Explain, ExplainRecords, Test, Parse, Records}
+use Rattle.peg_cli.specs.declared.words.Words.TheVariants.{Joined, Help, Table, Check, Code, Lint, LintMessages, Profile, Coverage, RecordCoverage, Explain, ExplainRecords, Test, Parse, Records}
 
 -- all values of an argument, in the order of the command line; none if it is not given
 abbrev pub all_values : Found → (id : List ℕ) → List (List ℕ)
@@ -33,6 +33,12 @@ IsCommandOf name found (Table g) = (name ≡ codes "table") × (first_value foun
 IsCommandOf name found (Check g) = (name ≡ codes "check") × (first_value found (codes "G") ≡ Some (string_bytes g))
 IsCommandOf name found (Code g) = (name ≡ codes "code") × (first_value found (codes "G") ≡ Some (string_bytes g))
 IsCommandOf name found (Lint g start proved) = (name ≡ codes "lint")
+    × IsFlagAt found (codes "human") false
+    × (first_value found (codes "G") ≡ Some (string_bytes g))
+    × (first_value found (codes "start") ≡ option_map string_bytes start)
+    × IsFlagAt found (codes "proved") proved
+IsCommandOf name found (LintMessages g start proved) = (name ≡ codes "lint")
+    × IsFlagAt found (codes "human") true
     × (first_value found (codes "G") ≡ Some (string_bytes g))
     × (first_value found (codes "start") ≡ option_map string_bytes start)
     × IsFlagAt found (codes "proved") proved

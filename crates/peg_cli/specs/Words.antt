@@ -1,7 +1,7 @@
 -- What the command line arguments request.
 use Rattle.std.specs.Prelude.{ℕ, ◌≤◌, Option, IfSome}
 use Rattle.peg_cli.specs.declared.words.Words.{Words}
-use Rattle.peg_cli.specs.declared.words.Words.TheVariants.{Joined, Help, Table, Check, Code, Lint, Profile, Coverage, RecordCoverage, Explain, ExplainRecords, Test, Parse, Records}
+use Rattle.peg_cli.specs.declared.words.Words.TheVariants.{Joined, Help, Table, Check, Code, Lint, LintMessages, Profile, Coverage, RecordCoverage, Explain, ExplainRecords, Test, Parse, Records}
 
 -- a limit of steps or of messages, if there is one, is from 1 to 1,000,000,000,000
 abbrev pub IsLimit : Option ℕ → Type 0
@@ -27,6 +27,7 @@ IsAsking (Table g) = Unit {0}
 IsAsking (Check g) = Unit {0}
 IsAsking (Code g) = Unit {0}
 IsAsking (Lint g start proved) = Unit {0}
+IsAsking (LintMessages g start proved) = Unit {0}
 IsAsking (Profile g t start memo steps) = AreInRange memo steps
 IsAsking (Coverage g texts start memo steps prefix) = AreInRange memo steps
 IsAsking (RecordCoverage g texts null crlf start memo steps prefix) = AreInRange memo steps

@@ -77,6 +77,11 @@ fn lint<'a>(alloc: Global) -> Result<Command<'a>, AllocError> {
             alloc,
             "proved",
             "Prints only proved warnings, without habits of other notations",
+        ))?
+        .arg(flag(
+            alloc,
+            "human",
+            "Prints a message for each warning, with its line of the grammar",
         ))
 }
 
@@ -410,8 +415,8 @@ const PROGRAM_NOTES: &str = "\
 Without arguments, pegtool reads standard input: a grammar file, a line `%%` and
 a text. It parses the text by the grammar's first rule.
 
-A run with an answer or a refusal prints one line of JSON; `explain` and `test`
-print messages for people instead. The exit status is:
+A run with an answer or a refusal prints one line of JSON; `explain`, `test` and
+`lint --human` print messages for people instead. The exit status is:
   0  success: matched, accepted, printed, no warnings, all used, or help
   1  no match, a partial match under --all, a text of `explain` that doesn't
      match, a test that fails, warnings of `lint`, or something unused under
@@ -472,6 +477,10 @@ its rule, its span, and the line and column where it starts. A warning that has
 \"proved\":true is true of every text: an alternative is never tried, an expression
 never matches, an operator has no effect, and others. The others are about habits
 of other notations, such as a class that begins with a caret.
+
+With --human, prints messages for people instead, in the form of `explain`: what
+each warning says and how to write the part, its line of the grammar, and a caret
+below its start. The last line names the rules that count as spacing, if any do.
 
 Status: 0 no warnings; 1 warnings; 2 the grammar is refused; 3 wrong arguments, or
 an unknown start rule; 4 a file can't be opened or read, or the output can't be

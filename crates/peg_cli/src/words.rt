@@ -66,6 +66,12 @@ pub enum Words {
         start: Option<String>,
         proved: bool,
     },
+    /// Print the warnings about grammar file `g` as messages for people. The other fields are those of `Lint`.
+    LintMessages {
+        g: String,
+        start: Option<String>,
+        proved: bool,
+    },
     /// Print what the rules of grammar file `g` do in a parse of text file `t`. The other fields are those of
     /// `ParseOptions`.
     Profile {
@@ -255,7 +261,23 @@ fn lint_of(alloc: Global, matches: &ArgMatches<'_>) -> Result<Words, WordsFault>
     ensures asking { IfOk result IsAsking }
     ensures command { IfOk result (IsCommandOf (codes "lint") (found_of matches.now)) }
 {
+    if matches.get_flag("human") {
+        return lint_messages_of(alloc, matches);
+    }
     Ok(Words::Lint {
+        g: file_name(alloc, matches, "G")?,
+        start: optional_text(alloc, matches, "start")?,
+        proved: matches.get_flag("proved"),
+    })
+}
+
+// Warnings as messages for people.
+fn lint_messages_of(alloc: Global, matches: &ArgMatches<'_>) -> Result<Words, WordsFault>
+    ensures asking { IfOk result IsAsking }
+    ensures command { IsFlagAt (found_of matches.now) (codes "human") true
+        → IfOk result (IsCommandOf (codes "lint") (found_of matches.now)) }
+{
+    Ok(Words::LintMessages {
         g: file_name(alloc, matches, "G")?,
         start: optional_text(alloc, matches, "start")?,
         proved: matches.get_flag("proved"),

@@ -17,3 +17,4 @@ pub mod SyntaxCauses
 pub mod SyntaxCausesCode
 pub mod Sentences
 pub mod Rejections
+pub mod Remarks

@@ -9,7 +9,7 @@ use Rattle.peg_messages.specs.FileNames.{shown_name}
 use Rattle.peg_tool.specs.Exits.{IsDeviceExit, IsExitAmong, IsExitFor, IsExitNaming, IsExitOfCause, IsExitOfResult, IsFileExit}
 use Rattle.peg_tool.specs.Exits.{exit_fault, report_exit}
 use Rattle.peg_tool.specs.Faults.{IsFaultAmong, IsFaultAt, IsKind, NamesCause, plain_result, record_streams, standard_input, stream_name}
-use Rattle.peg_tool.specs.Requests.{ToolRequest, InputRequest, HelpRequest, FileRequest, FilesRequest, CoverRequest, CoverRecordsRequest, ExplainRequest, ExplainRecordsRequest, TestRequest, RecordsRequest}
+use Rattle.peg_tool.specs.Requests.{ToolRequest, InputRequest, HelpRequest, FileRequest, LintRequest, FilesRequest, CoverRequest, CoverRecordsRequest, ExplainRequest, ExplainRecordsRequest, TestRequest, RecordsRequest}
 use Rattle.peg_tool.specs.declared.exit.Exit.{Exit}
 use Rattle.peg_tool.specs.declared.exit.Exit.TheVariants.{Done, Reported, Usage, Device, Fault}
 use Rattle.peg_tool.specs.declared.fault.RequestFault.{RequestFault}
@@ -133,6 +133,7 @@ pub exit-cause : (asked : ToolRequest) (file_at : List ℕ → NamedFile) (ended
 exit-cause InputRequest file_at ended exit is names = exit-naming ended exit standard_input None is names
 exit-cause (HelpRequest text) file_at ended exit is names = tt
 exit-cause (FileRequest task g) file_at ended exit is names = exit-naming ended exit (shown_name g) None is names
+exit-cause (LintRequest question) file_at ended exit is names = tt
 exit-cause (FilesRequest task g t) file_at ended exit is names = (
   λ missing. exit-naming ended exit (shown_name g) None is
       (err-map ended (NamesCause (FilesRequest task g t) file_at) (IsFaultAt (shown_name g) None)

@@ -1,6 +1,7 @@
 mod CoverageLemmas
 mod EndLemmas
 mod ExitLemmas
+mod LintedLemmas
 mod ProgramLemmas
 mod RecordCoverageLemmas
 mod RecordsLemmas

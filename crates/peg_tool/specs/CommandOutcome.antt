@@ -19,9 +19,10 @@ use Rattle.peg_record_files.specs.declared.outcome.RecordOutcome.{RecordOutcome}
 use Rattle.peg_replies.specs.RecordReplies.{HasParse, IsRecordReply, RefusesRecords, outcome_status}
 use Rattle.peg_replies.specs.Replies.{IsPrinted, IsPrintedJoined}
 use Rattle.peg_replies.specs.Task.{ToolTask}
+use Rattle.peg_tool.specs.LintOutcome.{LintOutcome}
 use Rattle.peg_tool.specs.TestOutcome.{TestOutcome}
 use Rattle.peg_tool.specs.RecordResults.{RecordsExplanation, records_result}
-use Rattle.peg_tool.specs.Requests.{ToolRequest, InputRequest, HelpRequest, FileRequest, FilesRequest, CoverRequest, CoverRecordsRequest, ExplainRequest, ExplainRecordsRequest, TestRequest, RecordsRequest}
+use Rattle.peg_tool.specs.Requests.{ToolRequest, InputRequest, HelpRequest, FileRequest, LintRequest, FilesRequest, CoverRequest, CoverRecordsRequest, ExplainRequest, ExplainRecordsRequest, TestRequest, RecordsRequest}
 use Rattle.peg_replies.specs.Written.{PrintsInPart}
 use Rattle.peg_tool.specs.declared.report.Findings.{Findings}
 use Rattle.peg_tool.specs.declared.program.ProgramFault.{ProgramFault}
@@ -62,7 +63,7 @@ RecordsOutcome task file texts end filter file_at input old new result =
 
 -- ---- requests
 
--- what is reported of an exit status, and of an explanation, a test or a coverage
+-- what is reported of an exit status, and of an explanation, a test, messages about a grammar or a coverage
 abbrev pub done_result : Result ℕ ProgramFault → Result Report ProgramFault
 done_result (Ok status) = Ok (report.Done status)
 done_result (Err fault) = Err fault
@@ -82,6 +83,8 @@ RequestOutcome (HelpRequest text) file_at input old new ended =
 RequestOutcome (FileRequest task g) file_at input old new ended = (done : Result ℕ ProgramFault)
     × IfSome (bytes_of (file_at g)) (λ file. (text : List ℕ) → WritesOrFails (IsPrinted task file text) old new done)
     × (ended ≡ done_result done)
+RequestOutcome (LintRequest question) file_at input old new ended =
+    (found : Result Findings ProgramFault) × LintOutcome question file_at old new found × (ended ≡ found_result found)
 RequestOutcome (FilesRequest task g t) file_at input old new ended = (done : Result ℕ ProgramFault)
     × IfSome (bytes_of (file_at g)) (λ file. IfSome (bytes_of (file_at t)) (λ text.
     WritesOrFails (IsPrinted task file text) old new done))

@@ -11,7 +11,7 @@ use Rattle.peg_cli.specs.declared.words.WordsFault.{WordsFault}
 use Rattle.peg_cli.specs.declared.words.WordsFault.TheVariants as words
 use Rattle.peg_tool.specs.CommandOutcome.{RequestOutcome}
 use Rattle.peg_tool.specs.Faults.{IsKind, device_message, record_streams, standard_input, stream_name}
-use Rattle.peg_tool.specs.Requests.{ToolRequest, InputRequest, HelpRequest, FileRequest, FilesRequest, CoverRequest, CoverRecordsRequest, ExplainRequest, ExplainRecordsRequest, TestRequest, RecordsRequest}
+use Rattle.peg_tool.specs.Requests.{ToolRequest, InputRequest, HelpRequest, FileRequest, LintRequest, FilesRequest, CoverRequest, CoverRecordsRequest, ExplainRequest, ExplainRecordsRequest, TestRequest, RecordsRequest}
 use Rattle.peg_tool.specs.declared.exit.Exit.{Exit}
 use Rattle.peg_tool.specs.declared.exit.Exit.TheVariants.{Done, Reported, Usage, Device, Fault}
 use Rattle.peg_tool.specs.declared.fault.RequestFault.{RequestFault}
@@ -73,11 +73,12 @@ IsExitAmong names other = Unit {0}
 
 -- Which stream a second line names if the output has not failed: a grammar file that is missing; the text if the grammar
 -- file is readable, and the grammar file if the text is. For records it is one of the texts, or the input, if the
--- grammar file is readable. An explanation or a test has no such line.
+-- grammar file is readable. An explanation, a test or messages about a grammar have no such line.
 abbrev pub IsExitOfCause : ToolRequest → (file_at : List ℕ → NamedFile) → Exit → Type 0
 IsExitOfCause InputRequest file_at exit = IsExitNaming standard_input exit
 IsExitOfCause (HelpRequest text) file_at exit = Unit {0}
 IsExitOfCause (FileRequest task g) file_at exit = IsExitNaming (shown_name g) exit
+IsExitOfCause (LintRequest question) file_at exit = Unit {0}
 IsExitOfCause (FilesRequest task g t) file_at exit = (IsMissing (file_at g) → IsExitNaming (shown_name g) exit)
     × (is_readable (file_at g) ≡ true → IsExitNaming (shown_name t) exit)
     × (is_readable (file_at t) ≡ true → IsExitNaming (shown_name g) exit)

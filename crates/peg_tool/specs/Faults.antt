@@ -4,7 +4,7 @@ use Rattle.std.specs.declared.io.ErrorKind.{ErrorKind}
 use Rattle.peg_io.specs.NamedFile.{NamedFile, IsMissing, is_readable}
 use Rattle.peg_io.specs.Reasons.{reason_of}
 use Rattle.peg_messages.specs.FileNames.{shown_name}
-use Rattle.peg_tool.specs.Requests.{ToolRequest, InputRequest, HelpRequest, FileRequest, FilesRequest, CoverRequest, CoverRecordsRequest, ExplainRequest, ExplainRecordsRequest, TestRequest, RecordsRequest}
+use Rattle.peg_tool.specs.Requests.{ToolRequest, InputRequest, HelpRequest, FileRequest, LintRequest, FilesRequest, CoverRequest, CoverRecordsRequest, ExplainRequest, ExplainRecordsRequest, TestRequest, RecordsRequest}
 use Rattle.peg_tool.specs.declared.fault.RequestFault.{RequestFault}
 use Rattle.peg_tool.specs.declared.fault.RequestFault.TheVariants as failed
 use Rattle.peg_tool.specs.declared.fault.Stream.{Stream}
@@ -29,12 +29,13 @@ abbrev pub record_streams : (texts : List (List ℕ)) → List (List ℕ)
 record_streams [] = standard_input ∷ []
 record_streams (text ∷ texts) = map shown_name (text ∷ texts)
 
--- What a request opens, reads or writes, by the names in messages. An explanation or a test has lines of its own for its
--- files, but for the texts whose records are explained.
+-- What a request opens, reads or writes, by the names in messages. An explanation, a test and messages about a grammar
+-- have lines of their own for their files, but for the texts whose records are explained.
 abbrev pub stream_names : ToolRequest → List (List ℕ)
 stream_names InputRequest = standard_input ∷ standard_output ∷ []
 stream_names (HelpRequest text) = standard_output ∷ []
 stream_names (FileRequest task g) = shown_name g ∷ standard_output ∷ []
+stream_names (LintRequest question) = standard_output ∷ []
 stream_names (FilesRequest task g t) = shown_name g ∷ shown_name t ∷ standard_output ∷ []
 stream_names (CoverRequest start memo steps needed g texts) =
     shown_name g ∷ map shown_name texts ++ standard_output ∷ []
@@ -77,12 +78,13 @@ IsFaultAmong names failed.Memory = Unit {0}
 
 -- Which stream a fault of a device names if the output has not failed: a grammar file that is missing; the text if the
 -- grammar file is readable, and the grammar file if the text is. For records it is one of the texts, or the input, if
--- the grammar file is readable, or always for an explanation of records. Another explanation or a test has no such
--- fault.
+-- the grammar file is readable, or always for an explanation of records. Another explanation, a test or messages about
+-- a grammar have no such fault.
 abbrev pub NamesCause : ToolRequest → (file_at : List ℕ → NamedFile) → RequestFault → Type 0
 NamesCause InputRequest file_at it = IsFaultAt standard_input None it
 NamesCause (HelpRequest text) file_at it = Unit {0}
 NamesCause (FileRequest task g) file_at it = IsFaultAt (shown_name g) None it
+NamesCause (LintRequest question) file_at it = Unit {0}
 NamesCause (FilesRequest task g t) file_at it = (IsMissing (file_at g) → IsFaultAt (shown_name g) None it)
     × (is_readable (file_at g) ≡ true → IsFaultAt (shown_name t) None it)
     × (is_readable (file_at t) ≡ true → IsFaultAt (shown_name g) None it)

@@ -26,6 +26,9 @@ pub use Rattle.peg_io.specs.Transfer
 pub use Rattle.peg_lint.specs.Never
 pub use Rattle.peg_lint.specs.FileWarnings
 pub use Rattle.peg_lint.specs.Warnings
+pub use Rattle.peg_lint_files.specs.LintAnswers
+pub use Rattle.peg_lint_files.specs.LintQuestions
+pub use Rattle.peg_lint_files.specs.WarningMessages
 pub use Rattle.peg_parser.specs.Accepts
 pub use Rattle.peg_parser.specs.Cause
 pub use Rattle.peg_parser.specs.Parser
@@ -56,6 +59,7 @@ pub mod CoverageWritten
 pub mod Exits
 pub mod Explanations
 pub mod Faults
+pub mod LintOutcome
 pub mod PreparedCoverages
 pub mod RecordCoverage
 pub mod RecordCoverageWritten

@@ -23,7 +23,7 @@ pub record EndsAs (request : ToolRequest) (file_at : List ℕ → NamedFile) (fa
   pub input_fault : EndsWithInput request → input_failed ≡ true → fault ≡ Some File
   -- of an explanation, only a failed output is a file fault
   pub explain_fault : IsExplainRequest request → ((fault ≡ Some File) ↔ (output_failed ≡ true))
-  -- the same of a test
+  -- the same of a test, and of messages about a grammar
   pub test_fault : IsTestRequest request → ((fault ≡ Some File) ↔ (output_failed ≡ true))
   -- if an allocation fails nothing is written, but by a request that writes early
   pub memory : ¬ WritesEarly request → fault ≡ Some Memory → Keeps old new

@@ -10,8 +10,9 @@ use Rattle.peg_coverage.specs.declared.text_match.RequiredMatch.{RequiredMatch}
 use Rattle.peg_coverage.specs.declared.text_match.RequiredMatch.TheVariants.{Whole, Prefix}
 use Rattle.peg_io.specs.NamedFile.{NamedFile, IsMissing, is_readable}
 use Rattle.peg_cli.specs.declared.words.Words.{Words}
-use Rattle.peg_cli.specs.declared.words.Words.TheVariants.{Joined, Help, Table, Check, Code, Lint, Profile, Coverage, RecordCoverage, Explain, ExplainRecords, Test, Parse, Records}
+use Rattle.peg_cli.specs.declared.words.Words.TheVariants.{Joined, Help, Table, Check, Code, Lint, LintMessages, Profile, Coverage, RecordCoverage, Explain, ExplainRecords, Test, Parse, Records}
 use Rattle.peg_lint.specs.FileWarnings.{selection_of}
+use Rattle.peg_lint_files.specs.LintQuestions.{LintQuestion}
 use Rattle.peg_json.specs.TreeForms.{form_from_options}
 use Rattle.peg_records.specs.declared.end.RecordEnd.{RecordEnd}
 use Rattle.peg_records.specs.declared.end.RecordEnd.TheVariants as end
@@ -32,13 +33,14 @@ pub record CoverQuestion : Type 0 where
   pub needed : RequiredMatch
 
 -- A request: the default task on a grammar file and a text from one input, a help text, a task on the grammar file with
--- a name, a task on a grammar file and a text with two names, what the texts with some names or their records use of a
--- grammar file, an explanation of texts or of the records of texts, a test of the texts in folders, or a task on a grammar
--- file and each record of texts with some names, or of the input without names.
+-- a name, messages about a grammar file, a task on a grammar file and a text with two names, what the texts with some
+-- names or their records use of a grammar file, an explanation of texts or of the records of texts, a test of the texts
+-- in folders, or a task on a grammar file and each record of texts with some names, or of the input without names.
 pub data ToolRequest : Type 0 where
   InputRequest : ToolRequest
   HelpRequest : (text : List ℕ) → ToolRequest
   FileRequest : (task : ToolTask) → (g : List ℕ) → ToolRequest
+  LintRequest : (question : LintQuestion) → ToolRequest
   FilesRequest : (task : ToolTask) → (g t : List ℕ) → ToolRequest
   CoverRequest : (start : Option (List ℕ)) → (memo : ℕ) → (steps : Option ℕ) → (needed : RequiredMatch) → (g : List ℕ)
       → (texts : List (List ℕ)) → ToolRequest
@@ -75,6 +77,11 @@ requested (Check g) = FileRequest CheckTask (string_bytes g)
 requested (Code g) = FileRequest CodeTask (string_bytes g)
 requested (Lint g start proved) =
     FileRequest (LintTask (option_map string_bytes start) (selection_of proved)) (string_bytes g)
+requested (LintMessages g start proved) = LintRequest record {
+  grammar = string_bytes g;
+  start = option_map string_bytes start;
+  selection = selection_of proved;
+}
 requested (Profile g t start memo steps) =
     FilesRequest (ProfileTask (option_map string_bytes start) memo steps) (string_bytes g) (string_bytes t)
 requested (Coverage g texts start memo steps prefix) =
@@ -129,11 +136,13 @@ requested (Records g texts null crlf failed matched start memo steps all rows no
 
 -- ---- files of a request
 
--- The grammar file that a request names can't be opened. An explanation or a test reports this itself.
+-- The grammar file that a request names can't be opened. An explanation, a test or messages about a grammar report this
+-- themselves.
 abbrev pub LacksGrammar : ToolRequest → (file_at : List ℕ → NamedFile) → Type 0
 LacksGrammar InputRequest file_at = ⊥
 LacksGrammar (HelpRequest text) file_at = ⊥
 LacksGrammar (FileRequest task g) file_at = IsMissing (file_at g)
+LacksGrammar (LintRequest question) file_at = ⊥
 LacksGrammar (FilesRequest task g t) file_at = IsMissing (file_at g)
 LacksGrammar (CoverRequest start memo steps needed g texts) file_at = IsMissing (file_at g)
 LacksGrammar (CoverRecordsRequest g question) file_at = IsMissing (file_at g)
@@ -148,6 +157,7 @@ abbrev pub LacksText : ToolRequest → (file_at : List ℕ → NamedFile) → Ty
 LacksText InputRequest file_at = ⊥
 LacksText (HelpRequest text) file_at = ⊥
 LacksText (FileRequest task g) file_at = ⊥
+LacksText (LintRequest question) file_at = ⊥
 LacksText (FilesRequest task g t) file_at = IsMissing (file_at t)
 LacksText (CoverRequest start memo steps needed g texts) file_at = ⊥
 LacksText (CoverRecordsRequest g question) file_at = ⊥
@@ -162,6 +172,7 @@ abbrev pub HasReadableFiles : ToolRequest → (file_at : List ℕ → NamedFile)
 HasReadableFiles InputRequest file_at = Unit {0}
 HasReadableFiles (HelpRequest text) file_at = Unit {0}
 HasReadableFiles (FileRequest task g) file_at = is_readable (file_at g) ≡ true
+HasReadableFiles (LintRequest question) file_at = ⊥
 HasReadableFiles (FilesRequest task g t) file_at = (is_readable (file_at g) ≡ true) × (is_readable (file_at t) ≡ true)
 HasReadableFiles (CoverRequest start memo steps needed g texts) file_at =
     (is_readable (file_at g) ≡ true) × All (λ text. is_readable (file_at text) ≡ true) texts
@@ -181,6 +192,7 @@ abbrev pub IsExplainRequest : ToolRequest → Type 0
 IsExplainRequest InputRequest = ⊥
 IsExplainRequest (HelpRequest text) = ⊥
 IsExplainRequest (FileRequest task g) = ⊥
+IsExplainRequest (LintRequest question) = ⊥
 IsExplainRequest (FilesRequest task g t) = ⊥
 IsExplainRequest (CoverRequest start memo steps needed g texts) = ⊥
 IsExplainRequest (CoverRecordsRequest g question) = ⊥
@@ -189,11 +201,12 @@ IsExplainRequest (ExplainRecordsRequest question) = ⊥
 IsExplainRequest (TestRequest question) = ⊥
 IsExplainRequest (RecordsRequest task g texts end filter) = ⊥
 
--- whether a test of texts is requested, which does so, too
+-- whether a test of texts is requested, or messages about a grammar, which do so, too
 abbrev pub IsTestRequest : ToolRequest → Type 0
 IsTestRequest InputRequest = ⊥
 IsTestRequest (HelpRequest text) = ⊥
 IsTestRequest (FileRequest task g) = ⊥
+IsTestRequest (LintRequest question) = Unit {0}
 IsTestRequest (FilesRequest task g t) = ⊥
 IsTestRequest (CoverRequest start memo steps needed g texts) = ⊥
 IsTestRequest (CoverRecordsRequest g question) = ⊥
@@ -209,6 +222,7 @@ abbrev pub ReadsInput : ToolRequest → Type 0
 ReadsInput InputRequest = Unit {0}
 ReadsInput (HelpRequest text) = ⊥
 ReadsInput (FileRequest task g) = ⊥
+ReadsInput (LintRequest question) = ⊥
 ReadsInput (FilesRequest task g t) = ⊥
 ReadsInput (CoverRequest start memo steps needed g texts) = ⊥
 ReadsInput (CoverRecordsRequest g question) = question.texts ≡ []

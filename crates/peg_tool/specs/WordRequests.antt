@@ -5,10 +5,11 @@ use Rattle.peg_cli.specs.declared.words.Words.TheVariants as words
 use Rattle.peg_coverage_files.specs.declared.cover_query.CoverQuery.{CoverQuery}
 use Rattle.peg_explain_files.specs.Questions.{question_of}
 use Rattle.peg_explain_records.specs.Questions as of_records
+use Rattle.peg_lint_files.specs.LintQuestions as linted
 use Rattle.peg_parser.specs.Parser.{start_named}
 use Rattle.peg_replies.specs.Commands.{parse_task, task_of}
 use Rattle.peg_test_files.specs.TestQuestions as asked
-use Rattle.peg_tool.specs.Requests.{CoverQuestion, ToolRequest, InputRequest, HelpRequest, FileRequest, FilesRequest, CoverRequest, CoverRecordsRequest, ExplainRequest, ExplainRecordsRequest, TestRequest, RecordsRequest}
+use Rattle.peg_tool.specs.Requests.{CoverQuestion, ToolRequest, InputRequest, HelpRequest, FileRequest, LintRequest, FilesRequest, CoverRequest, CoverRecordsRequest, ExplainRequest, ExplainRecordsRequest, TestRequest, RecordsRequest}
 use Rattle.peg_tool.specs.declared.request.Request.{Request}
 use Rattle.peg_tool.specs.declared.request.Request.TheVariants as request
 
@@ -28,6 +29,7 @@ abbrev pub request_of : Request → ToolRequest
 request_of request.Joined = InputRequest
 request_of (request.Help text) = HelpRequest text.now
 request_of (request.OnFile g command) = FileRequest (task_of command) g.now
+request_of (request.LintMessages query) = LintRequest (linted.question_of query)
 request_of (request.OnFiles g t command) = FilesRequest (task_of command) g.now t.now
 request_of (request.Cover g texts options needed) =
     CoverRequest (start_named options) options.memo options.steps needed g.now (map string_bytes texts.now)

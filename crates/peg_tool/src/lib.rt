@@ -6,6 +6,7 @@ mod covering_records;
 mod exit;
 mod explaining;
 mod fault;
+mod linting;
 mod prepare_coverage;
 mod program;
 mod record_messages;
@@ -25,6 +26,7 @@ pub use peg_json::{
     Fault, Status, answer_json, code_json, lint_json, profile_json, refusal_json, table_json,
 };
 pub use peg_lint::{Selection, Warning, WarningKind, file_warnings, warnings};
+pub use peg_lint_files::LintQuery;
 pub use peg_parser::{
     Answer, FigureFault, ParseFault, ParseOptions, Parser, Refusal, read_by_figure,
 };

@@ -20,6 +20,7 @@ use crate::covering::{coverage_reply, write_coverage};
 use crate::covering_records::on_record_coverage;
 use crate::explaining::explain;
 use crate::fault::{RequestFault, Stream};
+use crate::linting::lint;
 use crate::record_messages::explain_each_record;
 use crate::records::on_records;
 use crate::report::{Findings, Report};
@@ -90,10 +91,10 @@ impl From<AllocError> for ProgramFault {
 ///
 /// Returns `File` if a file can't be opened or read, or if the output can't be written. Returns `Memory`, with nothing
 /// written, if an allocation fails. For an explanation of texts, a file that can't be opened or read is status 4, and
-/// the other texts are read; `run_program` names it. The messages of the texts before a failed allocation are written. For
-/// a test of texts, a file or a folder is reported in the same way, and nothing is written before the end. The lines of
-/// records are written as they are read, so that those of the first records are written if an allocation fails.
-/// No device may have failed before.
+/// the other texts are read; `run_program` names it. The messages of the texts before a failed allocation are written.
+/// For a test of texts, a file or a folder is reported in the same way, and nothing is written before the end. So is
+/// the file of messages about a grammar. The lines of records are written as they are read, so that those of the first
+/// records are written if an allocation fails. No device may have failed before.
 pub fn run_words<O: Opener, I: Source, W: Sink>(
     alloc: Global,
     files: &O,
@@ -144,6 +145,9 @@ pub(crate) fn run_request<'a, O: Opener, I: Source, W: Sink>(
         Request::Help { text } => Ok(Report::Done(help(output, text)?)),
         Request::OnFile { g, command } => {
             Ok(Report::Done(on_file(alloc, files, output, g, &command)?))
+        }
+        Request::LintMessages { query } => {
+            Ok(Report::Found(lint(alloc, files, output, &query)?))
         }
         Request::OnFiles { g, t, command } => {
             Ok(Report::Done(on_files(alloc, files, output, g, t, &command)?))

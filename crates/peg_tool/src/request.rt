@@ -4,7 +4,7 @@ ghost use Rattle.peg_explain.specs.Styles.{style_of};
 ghost use Rattle.peg_lint.specs.FileWarnings.{selection_of};
 ghost use Rattle.peg_parser.specs.Parser.{start_named};
 ghost use Rattle.peg_replies.specs.Commands.{task_of};
-ghost use Rattle.peg_tool.specs.Requests.{CoverRequest, FileRequest, IsExplainRequest, TestRequest, end_of, filter_of, needed_of, requested};
+ghost use Rattle.peg_tool.specs.Requests.{CoverRequest, FileRequest, IsExplainRequest, LintRequest, TestRequest, end_of, filter_of, needed_of, requested};
 ghost use Rattle.peg_replies.specs.Task.{LintTask};
 ghost use Rattle.peg_tool.specs.WordRequests.{IsExplainRecordsWords, IsParseWords, IsRecordCoverageWords, IsRecordsWords, request_of};
 
@@ -16,6 +16,7 @@ use peg_explain_files::{ItemStyle, NameEnd, Printing, Query};
 use peg_explain_records::ExplainRecordsQuery;
 use peg_json::TreeForm;
 use peg_lint::Selection;
+use peg_lint_files::LintQuery;
 use peg_parser::ParseOptions;
 use peg_record_files::{RecordEnd, RecordFilter, RecordsQuery};
 use peg_replies::{Command, Nodes, TreePrinting};
@@ -34,6 +35,10 @@ pub enum Request<'a> {
     OnFile {
         g: &'a str,
         command: Command<'a>,
+    },
+    /// Prints the warnings about a grammar file as messages for people.
+    LintMessages {
+        query: LintQuery<'a>,
     },
     /// Runs a command on the grammar file with name `g` and the text file with name `t`.
     OnFiles {
@@ -85,6 +90,9 @@ impl<'a> Request<'a> {
             Words::Check { g } => request_on_file(g, Command::Check),
             Words::Code { g } => request_on_file(g, Command::Code),
             Words::Lint { g, start, proved } => request_lint(g, start.as_deref(), *proved),
+            Words::LintMessages { g, start, proved } => {
+                request_messages(g, start.as_deref(), *proved)
+            }
             Words::Profile {
                 g,
                 t,
@@ -143,6 +151,22 @@ fn request_lint<'a>(g: &'a str, start: Option<&'a str>, proved: bool) -> Request
 {
     let selection = Selection::from_proved(proved);
     request_on_file(g, Command::Lint { start, selection })
+}
+
+// Requests the same warnings as messages for people.
+fn request_messages<'a>(g: &'a str, start: Option<&'a str>, proved: bool) -> Request<'a>
+    ensures { request_of result ≡ LintRequest record {
+      grammar = g.now;
+      start = option_map (λ name. name.now) start.entry;
+      selection = selection_of proved;
+    } }
+{
+    let query = LintQuery {
+        grammar: g,
+        start,
+        selection: Selection::from_proved(proved),
+    };
+    Request::LintMessages { query }
 }
 
 // Requests what the texts with these names use of a grammar file, where whole texts or prefixes have to match.

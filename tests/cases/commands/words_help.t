@@ -37,9 +37,10 @@ The commands with one file have a form and an example.
 The help of lint has its options and an example with a start.
 
   $ pegtool lint --help > h
-  $ grep -o -e 'Usage: pegtool lint \[OPTIONS] <G>' -e '  --proved' h
+  $ grep -o -e 'Usage: pegtool lint \[OPTIONS] <G>' -e '  --proved' -e '  --human' h
   Usage: pegtool lint [OPTIONS] <G>
     --proved
+    --human
   $ grep -o -e 'Example: pegtool lint grammar\.peg --start Value' h
   Example: pegtool lint grammar.peg --start Value
 

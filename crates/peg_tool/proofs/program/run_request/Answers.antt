@@ -54,6 +54,35 @@ returns-in_ok-on_file-in-OnFile-clause-leads g c =
       done-status c.on_file.result _ c.in_ok-on_file-in-OnFile.was,
     )
 
+pub returns-in_err-lint-in-LintMessages-clause-leads : goal.returns-in_err-lint-in-LintMessages-clause-leads
+returns-in_err-lint-in-LintMessages-clause-leads g c =
+    let passed = c.from_residual-in_err-lint-in-LintMessages in
+    subst (λ (r : ToolRequest). RequestOutcome r (g.O.Opener.file_at c.args.files.now) (g.I.Source.left c.args.input.now)
+    (g.W.Sink.written c.args.output.now) (g.W.Sink.written c.lint.new.output) (plain_result passed.result))
+    c.in-LintMessages.ensures (
+      plain_result c.lint.result,
+      c.lint.ensures.leads,
+      found-fault c.lint.result _ passed.result c.in_err-lint-in-LintMessages.was passed.ensures.1,
+    )
+
+pub returns-in_ok-lint-in-LintMessages-clause-leads : goal.returns-in_ok-lint-in-LintMessages-clause-leads
+returns-in_ok-lint-in-LintMessages-clause-leads g c =
+    let it = report.Found c.in_ok-lint-in-LintMessages.field-0 in
+    subst (λ (r : ToolRequest). RequestOutcome r (g.O.Opener.file_at c.args.files.now) (g.I.Source.left c.args.input.now)
+    (g.W.Sink.written c.args.output.now) (g.W.Sink.written c.lint.new.output) (Ok it)) c.in-LintMessages.ensures (
+      plain_result c.lint.result,
+      c.lint.ensures.leads,
+      found-findings c.lint.result _ c.in_ok-lint-in-LintMessages.was,
+    )
+
+pub returns-in_err-lint-in-LintMessages-clause-named : goal.returns-in_err-lint-in-LintMessages-clause-named
+returns-in_err-lint-in-LintMessages-clause-named g c =
+    let passed = c.from_residual-in_err-lint-in-LintMessages in
+    subst (λ (r : ToolRequest). IfErr passed.result (IsFaultAmong (stream_names r))) c.in-LintMessages.ensures
+    (passed-among (standard_output ∷ []) _ passed.result
+    (at-among _ (standard_output ∷ []) standard_output _ c.in_err-lint-in-LintMessages.ensures.named
+    (first-among standard_output [])) passed.ensures.1)
+
 pub returns-in_err-on_files-in-OnFiles-clause-leads : goal.returns-in_err-on_files-in-OnFiles-clause-leads
 returns-in_err-on_files-in-OnFiles-clause-leads g c =
     let passed = c.from_residual-in_err-on_files-in-OnFiles in

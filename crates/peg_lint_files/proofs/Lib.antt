@@ -1,0 +1,2 @@
+mod LintLemmas
+mod SpacingLemmas

@@ -1,0 +1,9 @@
+pub use Rattle.peg_explain_files.specs.Entries
+pub use Rattle.peg_explain_files.specs.Explained
+pub use Rattle.peg_explain_files.specs.Printings
+pub use Rattle.peg_io.specs.NamedFile
+pub use Rattle.peg_semantics.specs.Rules
+pub mod LintAnswers
+pub mod LintQuestions
+pub mod WarningMessages
+pub mod WarningSentences
