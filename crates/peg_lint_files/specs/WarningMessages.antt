@@ -1,5 +1,5 @@
 -- The messages for warnings about a grammar file.
-use Rattle.std.specs.Prelude.{ℕ, List, [], ◌∷◌, ◌++◌, Option, None, Some, codes, filter, length, map}
+use Rattle.std.specs.Prelude.{ℕ, List, [], ◌∷◌, ◌++◌, Option, None, Some, codes, drop, filter, length, map, take}
 use Rattle.std.specs.List.{flat_map, range_with_len}
 use Rattle.peg_bytes.specs.declared.span.Span.{Span}
 use Rattle.peg_lint.specs.declared.warning.Warning.{Warning}
@@ -49,7 +49,18 @@ spacing_message name rules = spacing_note name (spacing_names rules)
 
 -- ---- all
 
--- the messages for warnings about a grammar file with these rules, in order, and a note of the rules that are spacing
+-- the greatest number of warnings with a message, since a place is found from the start of the file
+abbrev pub max_messages : ℕ
+max_messages = 1000
+
+-- a note that warnings are left out, if there are some
+abbrev pub left_out_note : (name : List ℕ) → (left_out : List Warning) → List ℕ
+left_out_note name [] = []
+left_out_note name (warning ∷ warnings) = name ++ codes ": note: there are more warnings\n"
+
+-- the messages for the first warnings about a grammar file with these rules, in order, a note if there are more, and a note
+-- of the rules that are spacing
 abbrev pub lint_message : (name file : List ℕ) → List Rule → List Warning → List ℕ
 lint_message name file rules warnings =
-    flat_map (warning_message name file) warnings ++ spacing_message name rules
+    flat_map (warning_message name file) (take max_messages warnings)
+    ++ (left_out_note name (drop max_messages warnings) ++ spacing_message name rules)

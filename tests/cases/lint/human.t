@@ -206,6 +206,19 @@ A dot before the next rule is shown where it is.
          ^
   [1]
 
+The first thousand warnings have a message, and a note says that there are more. Here each rule but the first one is
+unused.
+
+  $ (echo "S <- 'x'"; for n in $(seq 1001); do echo "R$n <- 'y'"; done) > many.peg
+  $ pegtool lint many.peg --human | grep -c ': warning: '
+  1000
+  $ pegtool lint many.peg --human | tail -n 1
+  many.peg: note: there are more warnings
+  $ head -n 1001 many.peg > fewer.peg; pegtool lint fewer.peg --human | tail -n 1
+  ^
+  $ pegtool lint fewer.peg --human | grep -c ': warning: '
+  1000
+
 The last line names the rules that count as spacing, in the order of the file. Spacing repeats blanks and comments, and
 Comment is called by it alone. No warning is there, so the status is 0.
 
