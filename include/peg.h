@@ -295,7 +295,8 @@ PEG_API size_t peg_line_text(peg_line *line, uint8_t *out, size_t out_length);
 
 /* Parses a prefix of a text and stores the answer in `out`. `start` is the name of the start rule, or empty for the
  * first rule. `memo` is the capacity of the memo, which changes no result, only the time and the steps; 0 is none.
- * `steps` is the greatest number of steps that the parse may take; 0 is no limit. `grammar` is unchanged.
+ * `steps` is the greatest number of steps of each run of the parse, as under "Steps"; 0 is no limit. `grammar` is
+ * unchanged.
  * Returns PEG_OK if a prefix matched, and PEG_FAILED if none did. `out` then holds the answer, and the caller has to
  * release it with `peg_match_free`. To match the whole text, compare `consumed` of the summary with its length.
  * Otherwise `out` is unchanged. PEG_WRONG_HANDLE: `grammar` holds no grammar. PEG_NO_SUCH_START: no rule has the name.

@@ -22,3 +22,14 @@ record are the dot and 'x', both at its end.
   $ pegtool parse nest records --lines --no-tree | sed 's/"record":[0-9]*,//' | sort | uniq -c
     40000 {"consumed":1,"expected":[[8,9]],"far":1,"result":"matched"}
         1 {"consumed":29,"expected":[[8,9],[25,28]],"far":29,"result":"matched"}
+
+Each record has the memo. Of 30 parentheses each level takes twelve steps with a memo, and the innermost call seven: 367
+steps. Without one it would take over 2^30.
+
+  $ echo "A <- '(' A ')' 'x' / '(' A ')' 'y' / 'a'" > twice
+  $ (printf '(%.0s' $(seq 30); printf a; printf ')y%.0s' $(seq 30); echo) > deep
+  $ pegtool parse twice deep --lines --no-tree --steps 367
+  {"record":1,"consumed":91,"expected":[[15,18]],"far":90,"result":"matched"}
+  $ pegtool parse twice deep --lines --no-tree --steps 366
+  {"record":1,"refusal":"StepLimit"}
+  [6]
