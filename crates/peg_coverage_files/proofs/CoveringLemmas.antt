@@ -1,7 +1,7 @@
 -- The texts in files, and what they use.
-use Rattle.std.proofs.Common.{◌≡◌, ◌↔◌, ◌∙◌, ℕ, zero, suc, ◌+◌, ◌<◌, ◌≤◌, ◌++◌, ◌≢◌, inl, inr, All, Bool, true, false, ◌||◌, List, [], ◌∷◌}
+use Rattle.std.proofs.Common.{◌≡◌, ◌↔◌, ◌∙◌, ℕ, zero, suc, ◌+◌, ◌<◌, ◌≤◌, ◌++◌, inl, inr, All, Bool, true, false, ◌||◌, List, [], ◌∷◌}
 use Rattle.std.proofs.Common.{Option, None, Some, IfSome, add-one, ap, arith, cond, count_by, filter, get_or, length, length-append, map, not, option_map, refl, slice_index_or, string_bytes}
-use Rattle.std.proofs.Common.{length-take, IfErr, IfOk, OnErr, OnOk, Result, Ok, Err, subst, sym, take}
+use Rattle.std.proofs.Common.{IfErr, IfOk, OnErr, OnOk, Result, Ok, Err, subst, sym, take}
 use Rattle.std.specs.Prelude.{IsErrAnd}
 use Rattle.std.proofs.Math.Seq.{take-suc}
 use Rattle.std.proofs.lemmas.List.{length-map, map-append, take-map, take_all}
@@ -34,7 +34,6 @@ use Rattle.peg_coverage_files.specs.NamedTexts.{files_named, texts_in}
 use Rattle.peg_coverage_files.specs.TextEnds.{end_of, end_of_parse, ended_by, matches_of, stops_of}
 use Rattle.peg_coverage_files.specs.declared.counts.TextEnd.{TextEnd}
 use Rattle.peg_coverage_files.specs.declared.covered.CoveredTexts.{CoveredTexts}
-use Rattle.peg_coverage_files.specs.declared.counts.TextEnd.TheVariants as end
 use Rattle.peg_coverage_files.specs.declared.fault.CoveringFault.{CoveringFault}
 use Rattle.peg_coverage_files.specs.declared.fault.CoveringFault.TheVariants as covering
 use Rattle.peg_grammar.specs.Limits.{max_text_bytes}

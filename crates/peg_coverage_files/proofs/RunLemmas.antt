@@ -1,5 +1,5 @@
 -- What a run over the records of a stream covers.
-use Rattle.std.proofs.Common.{◌≡◌, ◌∙◌, ℕ, ◌<◌, ◌≤◌, All, List, [], ◌∷◌, ◌++◌, Option, None, Some, IfErr, IfSome, OnOk, Result, Ok, Err, IsErrAnd, inl, inr, ap, append-nil, append_assoc, arith, false, is_some, length, map, refl, subst, suc, sym, take, true}
+use Rattle.std.proofs.Common.{◌≡◌, ◌∙◌, ℕ, ◌≤◌, All, List, [], ◌∷◌, ◌++◌, Option, Some, IfErr, OnOk, Result, Ok, Err, IsErrAnd, inl, inr, ap, append-nil, append_assoc, arith, false, is_some, length, map, refl, subst, suc, sym, take, true}
 use Rattle.std.proofs.lemmas.List.{map-append}
 use Rattle.std.proofs.lemmas.List.Elements.{All-append, All-cons, All-head, All-nil, All-tail}
 use Rattle.peg_coverage.specs.Covered.{settings_of}

@@ -1,5 +1,5 @@
 -- The records of several streams.
-use Rattle.std.proofs.Common.{◌≡◌, ◌∙◌, ℕ, ◌+◌, ◌<◌, All, List, [], ◌∷◌, ◌++◌, Bool, true, false, Option, None, Some, IfErr, IfSome, IsErrAnd, OnOk, Result, Ok, Err, ap, get_or, length, map, refl, string_bytes, subst, suc, sym, take, zero}
+use Rattle.std.proofs.Common.{◌≡◌, ◌∙◌, ℕ, ◌<◌, All, List, [], ◌∷◌, ◌++◌, Bool, true, false, Option, None, Some, IfErr, IfSome, IsErrAnd, OnOk, Result, Ok, Err, ap, get_or, length, map, refl, string_bytes, subst, suc, sym, take, zero}
 use Rattle.std.proofs.lemmas.List.Elements.{All-cons, All-head, All-nil, All-tail}
 use Rattle.std.specs.List.{flat_map, slice_get}
 use Rattle.std.specs.declared.alloc.Global.{Global}
@@ -240,3 +240,9 @@ streams-fault rules end file_at input [] start NoSuchStart is = absurd is
 streams-fault rules end file_at input (name ∷ names) start NoSuchStart is = absurd is
 streams-fault rules end file_at input names start TextTooLong is = is
 streams-fault rules end file_at input names start Memory is = is
+
+-- what is true of all names is true of none
+pub all-none : {T E : Type 0} (P : List ℕ → Type 0) (names : List (List ℕ)) (result : Result T E) → names ≡ []
+    → OnOk result (All P names)
+all-none P names (Ok x) none = subst (All P) (sym none) (All-nil P)
+all-none P names (Err fault) none = tt

@@ -1,5 +1,5 @@
 //! Covers the records of texts that are read by name, or of an input.
-ghost use Rattle.std.specs.Prelude.{◌≡◌, ◌≢◌, ◌↔◌, ℕ, [], List, IfErr, IfOk, IfSome, IsErrOf, None, OnOk, Some, false, length, map, string_bytes, true};
+ghost use Rattle.std.specs.Prelude.{◌≡◌, ◌≢◌, ◌↔◌, ℕ, [], All, List, IfErr, IfOk, IfSome, IsErrOf, None, OnOk, Some, false, length, map, string_bytes, true};
 ghost use Rattle.std.specs.List.{flat_map};
 ghost use Rattle.peg_coverage.specs.Covered.{settings_of};
 ghost use Rattle.peg_coverage.specs.CoverageParser.{IsCoverageParserOf, rule_count};
@@ -58,6 +58,9 @@ pub fn cover_records<'a, O: Opener, I: Source>(
         → IfOk result (IsCoverageOf rules start (settings_of query.now.options) query.now.needed
         (map Some (flat_map (records query.now.end) streams))) }
     ensures within { (rules : List Rule) → IsCoverageParserOf rules parser.now → IfOk result (ListsWithin rules) }
+    ensures present { (rules : List Rule) → IsCoverageParserOf rules parser.now
+        → OnOk result (All (λ (name : List ℕ). HasShortRecords query.now.end (O.file_at files.now name))
+        (map string_bytes query.now.texts.now)) }
     ensures refused { (rules : List Rule) → IsCoverageParserOf rules parser.now
         → IfErr result (IsFaultOfRecords rules query.now.end (O.file_at files.now) (I.left input.old)
         (map string_bytes query.now.texts.now) (start_named query.now.options)) }
@@ -96,6 +99,9 @@ fn cover_all<'a, O: Opener, I: Source>(
     ensures refused { (terms : CoverTerms) → AreTermsOf parser.now query.now terms
         → IfErr result (IsFaultOfStreams run.old.reader.end (O.file_at files.now) (I.left input.old)
         (map string_bytes query.now.texts.now)) }
+    ensures short { (terms : CoverTerms) → AreTermsOf parser.now query.now terms
+        → OnOk result (All (λ (name : List ℕ). HasShortRecords run.old.reader.end (O.file_at files.now name))
+        (map string_bytes query.now.texts.now)) }
     ensures input { IsErrOf result CoveringFault.Input ↔ (I.failed input.new ≡ true) }
     ensures unread { query.now.texts.now ≢ [] → input.new ≡ input.old }
     ensures never { I.never_fails input.old ≡ true → I.failed input.new ≡ false }
@@ -124,6 +130,9 @@ fn cover_texts<'a, O: Opener>(
         → OnOk result (CoversMore terms (flat_map (records run.old.reader.end) streams) run.old.covered run.new.covered) }
     ensures refused { (terms : CoverTerms) → AreTermsOf parser.now query.now terms
         → IfErr result (IsFaultOfTexts run.old.reader.end (O.file_at files.now) (map string_bytes query.now.texts.now)) }
+    ensures short { (terms : CoverTerms) → AreTermsOf parser.now query.now terms
+        → OnOk result (All (λ (name : List ℕ). HasShortRecords run.old.reader.end (O.file_at files.now name))
+        (map string_bytes query.now.texts.now)) }
     ensures input { ¬ IsErrOf result CoveringFault.Input }
 {
     let texts = query.texts;

@@ -1,5 +1,5 @@
 -- What is printed for a question about the records of texts.
-use Rattle.std.specs.Prelude.{◌≡◌, ◌⊎◌, ℕ, ◌+◌, List, [], Option, None, Some, Result, Ok, Err, codes, map, string_bytes, unwrap_or}
+use Rattle.std.specs.Prelude.{◌≡◌, ◌⊎◌, ℕ, ◌+◌, List, [], Option, None, Some, OnOk, Result, Ok, Err, codes, map, string_bytes, unwrap_or}
 use Rattle.std.specs.Io.KnownBytes.{Keeps}
 use Rattle.peg_explain.specs.RefusalMessages.{AreRulesOfCycle, IsRefusalMessage}
 use Rattle.peg_explain_files.specs.Contents.{IsContentOf}
@@ -18,7 +18,7 @@ use Rattle.peg_metagrammar.specs.Notation.{max_file_bytes}
 use Rattle.peg_parser.specs.Accepts.{Accepts}
 use Rattle.peg_parser.specs.Cause.{Cause}
 use Rattle.peg_parser.specs.Refusals.{IsRefusalOf}
-use Rattle.peg_record_files.specs.Streams.{AreStreams}
+use Rattle.peg_record_files.specs.Streams.{ArePresent, AreStreams}
 use Rattle.peg_record_files.specs.declared.fault.RecordsFault.{RecordsFault}
 use Rattle.peg_record_files.specs.declared.fault.RecordsFault.TheVariants.{Output, Memory}
 use Rattle.peg_record_files.specs.declared.outcome.RecordOutcome.{RecordOutcome}
@@ -71,14 +71,15 @@ IsEndOf (Ok worst) (Err fault) = ⊥
 IsEndOf (Err fault) (Ok ended) = ⊥
 IsEndOf (Err fault) (Err stated) = stated ≡ fault
 
--- The records of the texts are explained by an accepted grammar file whose rules have the start. It promises nothing of
--- the records if the bytes of a text aren't specified.
+-- The records of the texts are explained by an accepted grammar file whose rules have the start. Without a fault each text
+-- could be opened. It promises nothing of the records if the bytes of a text aren't specified.
 pub record ExplainsRecords (question : RecordsQuestion) (file_at : List ℕ → NamedFile) (input : Option (List ℕ))
     (file : List ℕ) (old new : Option (List ℕ)) (result : Result Ended RecordsFault) : Type 0 where
   pub rules : List Rule
   pub from : List ℕ
   pub accepts : Accepts file rules
   pub starts : start_name rules question.start ≡ Some from
+  pub present : OnOk result (ArePresent file_at question.texts)
   pub writes : (streams : List (List ℕ)) → AreStreams file_at input question.texts streams
       → (ended : Result RecordOutcome RecordsFault)
       × WritesMessages (setting_of question file rules) (text_names question.texts) streams old new ended

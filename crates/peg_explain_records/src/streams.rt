@@ -1,11 +1,11 @@
 //! Explains the records of texts, one text after the other.
-ghost use Rattle.std.specs.Prelude.{◌≡◌, ◌≢◌, ◌↔◌, ◌∷◌, [], ℕ, List, IfErr, IsErrOf, Some, false, map, string_bytes, true};
+ghost use Rattle.std.specs.Prelude.{◌≡◌, ◌≢◌, ◌↔◌, ◌∷◌, [], ℕ, List, IfErr, IsErrOf, OnOk, Some, false, map, string_bytes, true};
 ghost use Rattle.std.specs.List.{flat_map};
 ghost use Rattle.peg_explain.specs.Explainers.{IsExplainerOf};
 ghost use Rattle.peg_parser.specs.Parser.{start_named};
 ghost use Rattle.peg_record_files.specs.Faults.{IsFaultAmongTexts};
 ghost use Rattle.peg_record_files.specs.RecordReplies.{WritesReplies};
-ghost use Rattle.peg_record_files.specs.Streams.{AreStreams};
+ghost use Rattle.peg_record_files.specs.Streams.{ArePresent, AreStreams};
 ghost use Rattle.peg_record_files.specs.declared.filter.RecordFilter.TheVariants.{All};
 ghost use Rattle.peg_records.specs.Records.{records};
 ghost use Rattle.peg_semantics.specs.Rules.{Rule};
@@ -39,6 +39,7 @@ pub(crate) fn explain_streams<'a, O: Opener, I: Source, W: Sink>(
         → AreStreams (O.file_at files.now) (I.left input.old) (map string_bytes query.now.texts.now) streams
         → WritesMessages (setting_of (question_of query.now) file rules)
         (text_names (map string_bytes query.now.texts.now)) streams (W.written output.old) (W.written output.new) result }
+    ensures present { OnOk result (ArePresent (O.file_at files.now) (map string_bytes query.now.texts.now)) }
     ensures text { IfErr result (IsFaultAmongTexts (O.file_at files.now) (map string_bytes query.now.texts.now)) }
     ensures input { IsErrOf result RecordsFault.Input ↔ (I.failed input.new ≡ true) }
     ensures output { IsErrOf result RecordsFault.Output ↔ (W.failed output.new ≡ true) }
@@ -70,6 +71,7 @@ fn explain_texts<'a, O: Opener, I: Source, W: Sink>(
         → AreStreams (O.file_at files.now) (I.left input.old) (map string_bytes query.now.texts.now) streams
         → WritesMessages (setting_of (question_of query.now) file rules) (map string_bytes query.now.texts.now) streams
         (W.written output.old) (W.written output.new) result }
+    ensures present { OnOk result (ArePresent (O.file_at files.now) (map string_bytes query.now.texts.now)) }
     ensures text { IfErr result (IsFaultAmongTexts (O.file_at files.now) (map string_bytes query.now.texts.now)) }
     ensures input { ¬ IsErrOf result RecordsFault.Input }
     ensures output { IsErrOf result RecordsFault.Output ↔ (W.failed output.new ≡ true) }
@@ -108,6 +110,7 @@ fn explain_named<'a, O: Opener, I: Source, W: Sink>(
         → AreStreams (O.file_at files.now) (I.left input.old) (map string_bytes texts.now) streams
         → WritesReplies (IsRecordMessage (setting_of (question_of query.now) file rules) name.now) All query.now.end
         (flat_map (records query.now.end) streams) (W.written output.old) (W.written output.new) result }
+    ensures present { OnOk result (ArePresent (O.file_at files.now) (map string_bytes texts.now)) }
     ensures text { IfErr result (IsFaultAmongTexts (O.file_at files.now) (map string_bytes texts.now)) }
     ensures input { IsErrOf result RecordsFault.Input ↔ (I.failed input.new ≡ true) }
     ensures output { IsErrOf result RecordsFault.Output ↔ (W.failed output.new ≡ true) }

@@ -1,5 +1,5 @@
 -- The records ahead of a run, and what is added for the first of them.
-use Rattle.std.proofs.Common.{◌≡◌, ◌∙◌, ℕ, List, [], ◌++◌, Option, None, Some, IfSome, Result, Ok, Err, IsErrAnd, ap, append_assoc, refl, subst, sym}
+use Rattle.std.proofs.Common.{◌≡◌, ◌∙◌, ℕ, List, [], ◌++◌, Option, Some, Result, Ok, Err, IsErrAnd, ap, append_assoc, refl, subst, sym}
 use Rattle.std.specs.Io.KnownBytes.{Appends}
 use Rattle.peg_io.specs.Transfer.{AppendsProperPrefix}
 use Rattle.peg_records.specs.Readers.{IsAheadOf}

@@ -1,16 +1,17 @@
 -- The names and the bytes of several streams.
-use Rattle.std.proofs.Common.{◌≡◌, ◌∙◌, ◌+◌, ◌<◌, ℕ, List, [], ◌∷◌, ◌++◌, Option, None, Some, IfSome, ap, append_assoc, drop, get_or, length, map, refl, string_bytes, subst, sym, take}
+use Rattle.std.proofs.Common.{◌≡◌, ◌∙◌, ◌+◌, ◌<◌, ℕ, List, [], ◌∷◌, ◌++◌, Option, None, Some, IfSome, OnOk, Result, Ok, Err, ap, drop, get_or, length, map, refl, string_bytes, subst, sym, take}
 use Rattle.std.proofs.lemmas.Grind.{flat_map-append}
 use Rattle.std.proofs.lemmas.List.{append-nil, map-append, take-append-drop, take_more}
+use Rattle.std.proofs.lemmas.List.Elements.{All-nil}
 use Rattle.std.specs.List.{flat_map}
 use Rattle.std.specs.declared.alloc.Global.{Global}
 use Rattle.std.specs.declared.string.String.{String}
-use Rattle.peg_io.specs.NamedFile.{NamedFile}
+use Rattle.peg_io.specs.NamedFile.{IsMissing, NamedFile}
 use Rattle.peg_records.specs.Readers.{IsAheadOf}
 use Rattle.peg_records.specs.Records.{records}
 use Rattle.peg_records.specs.declared.end.RecordEnd.{RecordEnd}
 use Rattle.peg_records.specs.declared.reader.RecordReader.{RecordReader}
-use Rattle.peg_record_files.specs.Streams.{bytes_of_streams}
+use Rattle.peg_record_files.specs.Streams.{ArePresent, bytes_of_streams}
 
 -- ---- known bytes
 
@@ -129,3 +130,17 @@ pub names-around : (texts : List (String Global)) (i : ℕ) (text : String Globa
 names-around texts i text name within is same =
     ap (λ (l : List (List ℕ)). l ++ map string_bytes (drop (i + 1) texts)) (sym (names-more texts i text name within is same))
     ∙ names-all texts (i + 1)
+
+-- ---- texts that are there
+
+-- without names no text is missing
+pub none-missing : {T E : Type 0} (file_at : List ℕ → NamedFile) (names : List (List ℕ)) (result : Result T E)
+    → names ≡ [] → OnOk result (ArePresent file_at names)
+none-missing file_at names (Ok x) none =
+    subst (ArePresent file_at) (sym none) (All-nil (λ (name : List ℕ). ¬ IsMissing (file_at name)))
+none-missing file_at names (Err fault) none = tt
+
+-- what holds anyway holds after a success
+pub on-ok : {T E P : Type 0} (result : Result T E) → P → OnOk result P
+on-ok (Ok x) p = p
+on-ok (Err fault) p = tt

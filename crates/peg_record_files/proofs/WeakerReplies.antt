@@ -1,5 +1,5 @@
 -- What is written for records, by a weaker definition of replies.
-use Rattle.std.proofs.Common.{◌≡◌, ℕ, List, [], ◌∷◌, Option, Result, Ok, Err}
+use Rattle.std.proofs.Common.{ℕ, List, [], ◌∷◌, Option, Result, Ok, Err}
 use Rattle.peg_records.specs.declared.end.RecordEnd.{RecordEnd}
 use Rattle.peg_record_files.specs.Places.{first_place, next_place}
 use Rattle.peg_record_files.specs.RecordReplies.{HaveReplies, HaveRepliesInPart, ImpliesReply, WritesReplies, a_record, no_record}

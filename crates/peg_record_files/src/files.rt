@@ -1,12 +1,12 @@
 //! The records of texts by name.
 ghost use Rattle.std.specs.Prelude.{◌≡◌, ◌≢◌, ◌↔◌, ℕ, [], ◌∷◌, List, IfErr, IfSome, IsErrOf, OnOk, false, map, string_bytes, true};
 ghost use Rattle.std.specs.List.{flat_map};
-ghost use Rattle.peg_io.specs.NamedFile.{bytes_of};
+ghost use Rattle.peg_io.specs.NamedFile.{IsMissing, bytes_of};
 ghost use Rattle.peg_records.specs.Records.{records};
 ghost use Rattle.peg_record_files.specs.Faults.{IsFaultAmongTexts, IsFaultOfOpen, IsFaultOfText, IsNoText};
 ghost use Rattle.peg_record_files.specs.RecordReplies.{ImpliesReply, WritesReplies};
 ghost use Rattle.peg_record_files.specs.Runs.{AreNoLines, IsBetween, LeadsTo, run_settings};
-ghost use Rattle.peg_record_files.specs.Streams.{AreStreams};
+ghost use Rattle.peg_record_files.specs.Streams.{ArePresent, AreStreams};
 
 use crate::fault::{RecordsFault, StreamFault};
 use crate::filter::RecordFilter;
@@ -46,6 +46,7 @@ pub fn write_records<'a, O: Opener, I: Source, W: Sink, P: RecordPrinter>(
     ensures lines { (streams : List (List ℕ)) → AreStreams (O.file_at files.now) (I.left input.old)
         (map string_bytes query.now.texts.now) streams → WritesReplies (P.replies printer.old) query.now.filter query.now.end
         (flat_map (records query.now.end) streams) (W.written output.old) (W.written output.new) result }
+    ensures present { OnOk result (ArePresent (O.file_at files.now) (map string_bytes query.now.texts.now)) }
     ensures text { IfErr result (IsFaultAmongTexts (O.file_at files.now) (map string_bytes query.now.texts.now)) }
     ensures input { IsErrOf result RecordsFault.Input ↔ (I.failed input.new ≡ true) }
     ensures output { IsErrOf result RecordsFault.Output ↔ (W.failed output.new ≡ true) }
@@ -75,6 +76,7 @@ fn write_all<'a, O: Opener, I: Source, W: Sink, P: RecordPrinter>(
         (map string_bytes query.now.texts.now) streams → LeadsTo (P.replies printer.old) query.now.filter run.old.reader.end
         (flat_map (records run.old.reader.end) streams) run.old run.new (W.written output.old) (W.written output.new)
         result }
+    ensures present { OnOk result (ArePresent (O.file_at files.now) (map string_bytes query.now.texts.now)) }
     ensures text { IfErr result (IsFaultAmongTexts (O.file_at files.now) (map string_bytes query.now.texts.now)) }
     ensures input { IsErrOf result RecordsFault.Input ↔ (I.failed input.new ≡ true) }
     ensures output { IsErrOf result RecordsFault.Output ↔ (W.failed output.new ≡ true) }
@@ -133,6 +135,7 @@ fn write_texts<'a, O: Opener, W: Sink, P: RecordPrinter>(
         ≡ map Some streams → LeadsTo (P.replies printer.old) query.now.filter run.old.reader.end
         (flat_map (records run.old.reader.end) streams) run.old run.new (W.written output.old) (W.written output.new)
         result }
+    ensures present { OnOk result (ArePresent (O.file_at files.now) (map string_bytes query.now.texts.now)) }
     ensures text { IfErr result (IsFaultAmongTexts (O.file_at files.now) (map string_bytes query.now.texts.now)) }
     ensures input { ¬ IsErrOf result RecordsFault.Input }
     ensures output { IsErrOf result RecordsFault.Output ↔ (W.failed output.new ≡ true) }
@@ -161,6 +164,7 @@ fn write_text<'a, O: Opener, W: Sink, P: RecordPrinter>(
         (records run.old.reader.end stream) run.old run.new (W.written output.old) (W.written output.new) result) }
     ensures between { OnOk result (IsBetween run.new) }
     ensures settings { run_settings run.new ≡ run_settings run.old }
+    ensures present { OnOk result (¬ IsMissing (O.file_at files.now name.now)) }
     ensures text { IfErr result (IsFaultOfText (O.file_at files.now) name.now) }
     ensures output { IsErrOf result RecordsFault.Output ↔ (W.failed output.new ≡ true) }
     ensures printer { ImpliesReply (P.replies printer.new) (P.replies printer.old) }

@@ -21,7 +21,7 @@ use Rattle.peg_coverage.specs.declared.fault.CoverageFault.TheVariants as covera
 use Rattle.peg_coverage.specs.declared.text_match.RequiredMatch.{RequiredMatch}
 use Rattle.peg_coverage_files.specs.CoveringFaults.{IsFirst, IsLong, IsParsable, IsShort, IsTooLong}
 use Rattle.peg_coverage_files.specs.NamedTexts.{texts_in}
-use Rattle.peg_coverage_files.specs.RecordFaults.{IsFaultOfRecords, IsFaultOfStreams}
+use Rattle.peg_coverage_files.specs.RecordFaults.{HasLongRecord, HasShortRecords, IsFaultOfRecords, IsFaultOfStreams}
 use Rattle.peg_coverage_files.specs.declared.fault.CoveringFault.{CoveringFault}
 use Rattle.peg_coverage_files.specs.declared.fault.CoveringFault.TheVariants as covering
 use Rattle.peg_coverage_files.specs.declared.cover_query.CoverQuery.{CoverQuery}
@@ -42,6 +42,8 @@ use Rattle.peg_parser.specs.Parser.{start_named}
 use Rattle.peg_parser.specs.declared.options.ParseOptions.{ParseOptions}
 use Rattle.peg_records.specs.Records.{records}
 use Rattle.peg_records.specs.declared.end.RecordEnd.{RecordEnd}
+use Rattle.peg_record_files.proofs.StreamLemmas.{on-ok}
+use Rattle.peg_record_files.specs.Streams.{ArePresent}
 use Rattle.peg_replies.specs.CoverageReplies.{CoversTo, a_text_over_limit, marked_over_limit, start_unknown}
 use Rattle.peg_replies.specs.Replies.{RepliesTo, covered, refused_grammar}
 use Rattle.peg_replies.proofs.JudgeLemmas.{refuses-replies}
@@ -52,7 +54,7 @@ use Rattle.peg_tool.specs.CoverageOutcome.{IsPrintedOf, WritesCoverage, error_li
 use Rattle.peg_tool.specs.CoverageWritten.{IsReplyOfKind, WritesCoverageReply}
 use Rattle.peg_tool.specs.Faults.{IsFaultAmong, IsFaultAt, IsKind, plain_fault, plain_result, record_streams, standard_input}
 use Rattle.peg_tool.specs.PreparedCoverages.{IsPreparedCoverage}
-use Rattle.peg_tool.specs.RecordCoverage.{CanCover, EndsCoverage, IsNoCoverage, IsPrintedOfRecords, RefusesCoverage, record_name, record_names, record_task}
+use Rattle.peg_tool.specs.RecordCoverage.{AreOpened, CanCover, EndsCoverage, IsNoCoverage, IsPrintedOfRecords, RefusesCoverage, record_name, record_names, record_task}
 use Rattle.peg_tool.specs.RecordCoverageWritten.{IsRecordCoverFault, IsRecordCoverageReply, IsRight, record_lines}
 use Rattle.peg_tool.specs.RecordFaults.{EndsRecords}
 use Rattle.peg_tool.specs.RequestContract.{EndsAs}
@@ -132,6 +134,28 @@ long-file texts first = record {
     short-files (text ∷ texts) all =
         All-cons IsParsable (Readable text) (map Readable texts) ((λ bad. bad), All-head IsShort text texts all)
         (short-files texts (All-tail IsShort text texts all))
+
+-- texts whose records aren't too long are there
+pub short-present : (end : RecordEnd) (file_at : List ℕ → NamedFile) (names : List (List ℕ))
+    → All (λ (name : List ℕ). HasShortRecords end (file_at name)) names → ArePresent file_at names
+short-present end file_at [] all = All-nil (λ (name : List ℕ). ¬ IsMissing (file_at name))
+short-present end file_at (name ∷ names) all =
+    let Short = λ (n : List ℕ). HasShortRecords end (file_at n) in
+    All-cons (λ (n : List ℕ). ¬ IsMissing (file_at n)) name names (All-head Short name names all).0
+    (short-present end file_at names (All-tail Short name names all))
+
+-- texts are opened up to the first one that has a record that is too long
+pub long-opened : (rules : List Rule) (question : CoverQuestion) (file_at : List ℕ → NamedFile) (input : Option (List ℕ))
+    (start : Option (List ℕ)) (why : CoveringFault) → why ≡ covering.TextTooLong
+    → IsFaultOfRecords rules question.end file_at input question.texts start why → AreOpened question file_at
+long-opened rules question file_at input start why is fault =
+    by question.texts (subst (IsFaultOfRecords rules question.end file_at input question.texts start) is fault)
+  where
+    by : (names : List (List ℕ)) → IsFaultOfStreams question.end file_at input names covering.TextTooLong
+        → ArePresent file_at names ⊎ IsFirst (λ (name : List ℕ). HasShortRecords question.end (file_at name))
+        (λ (name : List ℕ). HasLongRecord question.end (file_at name)) names
+    by [] long = inl (All-nil (λ (name : List ℕ). ¬ IsMissing (file_at name)))
+    by (name ∷ names) long = inr long
 
 -- ---- replies
 
@@ -269,8 +293,9 @@ coverage-written question file file_at input old new reply result (inl refused) 
 coverage-written question file file_at input old new reply result (inr covers) written =
     inr (
       covers.0,
+      on-ok result covers.1,
       λ all are. right-written (IsPrintedOfRecords question file (flat_map (records question.end) all)) reply
-          old new result (covers.1 all are) written,
+          old new result (covers.2 all are) written,
     )
 
 -- a fault before anything is written

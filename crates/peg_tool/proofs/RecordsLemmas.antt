@@ -1,6 +1,6 @@
 -- How requests for records end.
 use Rattle.std.proofs.Common.{◌≡◌, ◌≢◌, ◌⊎◌, ◌↔◌, ℕ, ◌+◌, All, Bool, true, false, List, [], ◌∷◌, ◌++◌, Option, None, Some}
-use Rattle.std.proofs.Common.{Result, Ok, Err, IfErr, IfSome, IsErrAnd, inl, inr, ap, arith, refl, subst, sym, ◌∙◌}
+use Rattle.std.proofs.Common.{Result, Ok, Err, IfErr, IfSome, IsErrAnd, OnOk, inl, inr, ap, arith, refl, subst, sym, ◌∙◌}
 use Rattle.std.proofs.lemmas.List.{get_or-map, length-map}
 use Rattle.std.proofs.lemmas.List.Elements.{All-contains, Contains-append_left, Contains-append_right, Contains-push}
 use Rattle.std.specs.Io.KnownBytes.{Keeps}
@@ -65,6 +65,17 @@ records-by file parser session filter end texts old new ended same parses of is 
 pub has-parse : (file : List ℕ) (parser : RecordParser) → IsRecordParserOf file parser
     → HasParse (parse_task parser.options parser.printing) file
 has-parse file parser of = (parser_rules parser.parser, of.accepts, of.known, of.start)
+
+-- what holds if the records are read without a fault holds of a request without one
+pub present-end : {T X : Type 0} (P : Type 0) (value : T → X) (ended : Result T RecordsFault) (result : Result X ProgramFault)
+    → result ≡ records_result value ended → OnOk ended P → OnOk result P
+present-end P value ended (Err fault) is present = tt
+present-end P value (Ok worst) (Ok x) is present = present
+present-end P value (Err (reading.Text name kind)) (Ok x) is present =
+    absurd (let bad : Ok x ≡ Err File = is in cc)
+present-end P value (Err reading.Input) (Ok x) is present = absurd (let bad : Ok x ≡ Err File = is in cc)
+present-end P value (Err reading.Output) (Ok x) is present = absurd (let bad : Ok x ≡ Err File = is in cc)
+present-end P value (Err reading.Memory) (Ok x) is present = absurd (let bad : Ok x ≡ Err Memory = is in cc)
 
 -- ---- grammar files
 

@@ -1,6 +1,6 @@
 -- How a request ends, and the exit status of the program for it.
 use Rattle.std.specs.Prelude.{◌≡◌, ◌⊎◌, ℕ, List, Option}
-use Rattle.std.specs.Prelude.{Result, Ok, Err, IfSome}
+use Rattle.std.specs.Prelude.{Result, Ok, Err, IfSome, OnOk}
 use Rattle.std.specs.List.{flat_map}
 use Rattle.std.specs.Io.KnownBytes.{Appends, Keeps}
 use Rattle.peg_io.specs.declared.opener.OpenFault.{OpenFault}
@@ -12,7 +12,7 @@ use Rattle.peg_tool.specs.Explanations.{ExplanationOutcome}
 use Rattle.peg_records.specs.Records.{records}
 use Rattle.peg_records.specs.declared.end.RecordEnd.{RecordEnd}
 use Rattle.peg_record_files.specs.RecordReplies.{WritesReplies}
-use Rattle.peg_record_files.specs.Streams.{AreStreams}
+use Rattle.peg_record_files.specs.Streams.{ArePresent, AreStreams}
 use Rattle.peg_record_files.specs.declared.fault.RecordsFault.{RecordsFault}
 use Rattle.peg_record_files.specs.declared.filter.RecordFilter.{RecordFilter}
 use Rattle.peg_record_files.specs.declared.outcome.RecordOutcome.{RecordOutcome}
@@ -51,13 +51,15 @@ WritesRecords task filter end file texts old new result = (ended : Result Record
     × WritesReplies (IsRecordReply file task) filter end texts old new ended × (result ≡ records_result outcome_status ended)
 
 -- How a task on a grammar file and the records of texts ends. If the file is refused, or a name of the task is unknown,
--- a line says so, and no record is read. It promises nothing of the records if the bytes of a text aren't specified.
+-- a line says so, and no record is read. Otherwise each text could be opened if there is no fault. It promises nothing of
+-- the records if the bytes of a text aren't specified.
 abbrev pub RecordsOutcome : ToolTask → (file : List ℕ) → (texts : List (List ℕ)) → RecordEnd → RecordFilter
     → (file_at : List ℕ → NamedFile) → (input : Option (List ℕ)) → (old new : Option (List ℕ)) → Result ℕ ProgramFault
     → Type 0
 RecordsOutcome task file texts end filter file_at input old new result =
     WritesOrFails (RefusesRecords task file) old new result
-    ⊎ (HasParse task file × ((streams : List (List ℕ)) → AreStreams file_at input texts streams
+    ⊎ (HasParse task file × OnOk result (ArePresent file_at texts)
+    × ((streams : List (List ℕ)) → AreStreams file_at input texts streams
     → WritesRecords task filter end file (flat_map (records end) streams) old new result))
 
 -- ---- requests

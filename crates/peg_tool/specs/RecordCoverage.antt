@@ -1,12 +1,14 @@
 -- How a request for what records use of a grammar ends.
-use Rattle.std.specs.Prelude.{◌≡◌, ◌⊎◌, ℕ, ◌+◌, ◌++◌, IfSome, IsSome, List, [], Option, Result, codes, length, map}
+use Rattle.std.specs.Prelude.{◌≡◌, ◌⊎◌, ℕ, ◌+◌, ◌++◌, IfSome, IsSome, List, OnOk, [], Option, Result, codes, length, map}
 use Rattle.std.specs.Fmt.{decimal}
 use Rattle.std.specs.List.{flat_map, range_with_len}
+use Rattle.peg_coverage_files.specs.CoveringFaults.{IsFirst}
+use Rattle.peg_coverage_files.specs.RecordFaults.{HasLongRecord, HasShortRecords}
 use Rattle.peg_io.specs.NamedFile.{NamedFile, Readable, bytes_of}
 use Rattle.peg_json.specs.Reply.{Reply, Covered}
 use Rattle.peg_parser.specs.Accepts.{Accepts}
 use Rattle.peg_records.specs.Records.{records}
-use Rattle.peg_record_files.specs.Streams.{AreStreams}
+use Rattle.peg_record_files.specs.Streams.{ArePresent, AreStreams}
 use Rattle.peg_replies.specs.Replies.{RepliesTo}
 use Rattle.peg_replies.specs.Task.{ToolTask, CoverTask}
 use Rattle.peg_semantics.specs.Rules.{Rule}
@@ -51,13 +53,21 @@ abbrev pub CanCover : CoverQuestion → (file : List ℕ) → Type 0
 CanCover question file =
     (rules : List Rule) × Accepts file rules × IsSome (start_name rules question.start)
 
+-- Each text can be opened, or one of them has a record that is too long. Then those before it can be opened, and have no
+-- such record.
+abbrev pub AreOpened : CoverQuestion → (file_at : List ℕ → NamedFile) → Type 0
+AreOpened question file_at = ArePresent file_at question.texts
+    ⊎ IsFirst (λ (name : List ℕ). HasShortRecords question.end (file_at name))
+    (λ (name : List ℕ). HasLongRecord question.end (file_at name)) question.texts
+
 -- How a request for what the records of texts use of a grammar file ends, over files by name and an input. It promises
--- nothing of the records if the bytes of a text aren't specified.
+-- nothing of the records if the bytes of a text aren't specified, but that no text is missing.
 abbrev pub EndsCoverage : CoverQuestion → (file : List ℕ) → (file_at : List ℕ → NamedFile) → (input : Option (List ℕ))
     → (old new : Option (List ℕ)) → Result Findings ProgramFault → Type 0
 EndsCoverage question file file_at input old new result =
     WritesCoverage (RefusesCoverage question file) old new result
-    ⊎ (CanCover question file × ((streams : List (List ℕ)) → AreStreams file_at input question.texts streams
+    ⊎ (CanCover question file × OnOk result (AreOpened question file_at)
+    × ((streams : List (List ℕ)) → AreStreams file_at input question.texts streams
     → WritesCoverage (IsPrintedOfRecords question file (flat_map (records question.end) streams)) old new result))
 
 -- The same for the grammar file with name `g`. It promises nothing if its bytes aren't specified.

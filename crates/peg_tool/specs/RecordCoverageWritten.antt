@@ -9,7 +9,7 @@ use Rattle.peg_records.specs.Records.{records}
 use Rattle.peg_record_files.specs.Streams.{AreStreams}
 use Rattle.peg_tool.specs.Faults.{IsKind}
 use Rattle.peg_tool.specs.CoverageOutcome.{stopped_line}
-use Rattle.peg_tool.specs.RecordCoverage.{CanCover, IsPrintedOfRecords, RefusesCoverage, record_name}
+use Rattle.peg_tool.specs.RecordCoverage.{AreOpened, CanCover, IsPrintedOfRecords, RefusesCoverage, record_name}
 use Rattle.peg_tool.specs.Requests.{CoverQuestion}
 use Rattle.peg_tool.specs.declared.covering.CoverageReply.{CoverageReply}
 use Rattle.peg_tool.specs.declared.fault.RequestFault.{RequestFault}
@@ -21,12 +21,13 @@ abbrev pub IsRight : (Printed : (line : List ℕ) → (status : ℕ) → (errors
 IsRight Printed reply = Printed (line_bytes reply.line) (status_code reply.line.status) (string_bytes reply.faults)
 
 -- What is printed reports why no record is covered, or what the records use, if the bytes of their streams are
--- specified.
+-- specified. Then no text is missing.
 abbrev pub IsRecordCoverageReply : CoverQuestion → (file : List ℕ) → (file_at : List ℕ → NamedFile)
     → (input : Option (List ℕ)) → CoverageReply → Type 0
 IsRecordCoverageReply question file file_at input reply =
     IsRight (RefusesCoverage question file) reply
-    ⊎ (CanCover question file × ((streams : List (List ℕ)) → AreStreams file_at input question.texts streams
+    ⊎ (CanCover question file × AreOpened question file_at
+    × ((streams : List (List ℕ)) → AreStreams file_at input question.texts streams
     → IsRight (IsPrintedOfRecords question file (flat_map (records question.end) streams)) reply))
 
 -- the lines on standard error for the stopped records with these numbers, in order

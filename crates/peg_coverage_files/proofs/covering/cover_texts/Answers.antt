@@ -1,4 +1,4 @@
-use Rattle.std.proofs.Common.{◌∙◌, ℕ, All, List, arith, map, string_bytes, subst, take}
+use Rattle.std.proofs.Common.{◌∙◌, ℕ, All, List, arith, map, string_bytes, subst}
 use Rattle.std.specs.declared.alloc.Global.{Global}
 use Rattle.std.specs.declared.string.String.{String}
 use Rattle.peg_coverage.specs.Covered.{settings_of}

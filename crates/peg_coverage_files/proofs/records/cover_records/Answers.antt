@@ -1,16 +1,15 @@
-use Rattle.std.proofs.Common.{◌≡◌, ◌∙◌, ℕ, List, Option, Some, ap, arith, false, is_some, map, string_bytes, subst, sym, true, [], refl}
+use Rattle.std.proofs.Common.{◌≡◌, ◌∙◌, ℕ, All, List, Some, ap, arith, false, is_some, map, string_bytes, subst, sym, true, [], refl}
 use Rattle.std.proofs.lemmas.Grind.{common_steps}
 use Rattle.std.specs.List.{flat_map}
 use Rattle.peg_coverage.specs.Covered.{settings_of}
 use Rattle.peg_parser.specs.Parser.{start_named}
 use Rattle.peg_records.specs.Records.{records}
 use Rattle.peg_records.specs.declared.end.RecordEnd.{RecordEnd}
-use Rattle.peg_semantics.specs.Starts.{start_name}
 use Rattle.peg_coverage_files.specs.CoverTerms.{AreTermsOf, CoverTerms}
 use Rattle.peg_coverage_files.specs.CoveredTexts.{AreCovered}
-use Rattle.peg_coverage_files.specs.RecordFaults.{IsFaultOfRecords, IsFaultOfStreams}
+use Rattle.peg_coverage_files.specs.RecordFaults.{HasShortRecords, IsFaultOfRecords, IsFaultOfStreams}
 use Rattle.peg_coverage_files.specs.declared.fault.CoveringFault.TheVariants.{NoSuchStart, TextTooLong}
-use Rattle.peg_coverage_files.proofs.CoveringLemmas.{refused-by, some-of}
+use Rattle.peg_coverage_files.proofs.CoveringLemmas.{refused-by}
 use Rattle.peg_coverage_files.proofs.RunLemmas.{terms-of}
 use Rattle.peg_coverage_files.proofs.StreamLemmas.{no-start-fault, stated-same, streams-fault, streams-long}
 use Rattle.peg_coverage_files.proofs.records.cover_records.Goals as goal
@@ -79,3 +78,12 @@ returns-clause-covered g c rules start streams is at are =
     (map Some (flat_map (records query.end) streams)) before is fresh.empty
     (subst (λ (e : RecordEnd). AreCovered rules start settings query.needed (map Some (flat_map (records e) streams)) before
     after) (ap (λ s. s.0) c.in_ok-run.ensures.settings) covered)
+
+pub returns-clause-present : goal.returns-clause-present
+returns-clause-present g c rules is =
+    let query = c.args.query.now in
+    let known : c.has_start.result ≡ true = grind (arith, common_steps) in
+    let of = terms-of c.args.parser.now query rules is (sym (c.has_start.ensures rules is) ∙ known) in
+    let file_at = g.O.Opener.file_at c.args.files.now in
+    subst (λ (e : RecordEnd). All (λ (name : List ℕ). HasShortRecords e (file_at name)) (map string_bytes query.texts.now))
+    (ap (λ s. s.0) c.in_ok-run.ensures.settings) (c.in_ok-cover_all.ensures.short of.0 of.1)

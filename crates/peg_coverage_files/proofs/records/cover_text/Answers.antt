@@ -1,9 +1,6 @@
-use Rattle.std.proofs.Common.{IfSome}
 use Rattle.peg_io.specs.NamedFile.{bytes_of}
 use Rattle.peg_parser.specs.Parser.{start_named}
-use Rattle.peg_records.specs.Records.{records}
-use Rattle.peg_record_files.proofs.StreamLemmas.{any-known, opened-known}
-use Rattle.peg_coverage_files.specs.CoverRuns.{EndsStream}
+use Rattle.peg_record_files.proofs.StreamLemmas.{opened-known}
 use Rattle.peg_coverage_files.proofs.StreamLemmas.{named-covered, named-fault, named-short}
 use Rattle.peg_coverage_files.proofs.records.cover_text.Goals as goal
 

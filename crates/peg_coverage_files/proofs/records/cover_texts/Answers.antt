@@ -1,6 +1,8 @@
-use Rattle.std.proofs.Common.{◌∙◌, ℕ, List, IfSome, ap, map, refl, string_bytes, subst, sym, take}
+use Rattle.std.proofs.Common.{◌∙◌, ℕ, All, List, IfSome, ap, map, refl, string_bytes, subst, sym, take}
 use Rattle.std.proofs.lemmas.List.{take_all}
 use Rattle.std.proofs.lemmas.List.Elements.{All-nil}
+use Rattle.std.specs.declared.alloc.Global.{Global}
+use Rattle.std.specs.declared.string.String.{String}
 use Rattle.peg_io.specs.NamedFile.{bytes_of}
 use Rattle.peg_records.specs.Records.{records}
 use Rattle.peg_records.specs.declared.end.RecordEnd.{RecordEnd}
@@ -68,3 +70,9 @@ returns-clause-covers g c terms all of are =
     let f = λ (n : List ℕ). bytes_of (g.O.Opener.file_at c.args.files.now n) in
     c.names.invariant.covers terms all of
     (ap (λ l. map f (map string_bytes l)) (take_all c.names.name-index c.args.query.now.texts.now c.names-test.false) ∙ are)
+
+pub returns-clause-short : goal.returns-clause-short
+returns-clause-short g c terms of =
+    let Short = λ (n : List ℕ). HasShortRecords c.args.run.now.reader.end (g.O.Opener.file_at c.args.files.now n) in
+    subst (λ (l : List (String Global)). All Short (map string_bytes l))
+    (take_all c.names.name-index c.args.query.now.texts.now c.names-test.false) (c.names.invariant.short terms of)

@@ -17,6 +17,7 @@ returns-in-Ok-clause-explains g c from accepts is =
       from = from;
       accepts = accepts;
       starts = is;
+      present = c.in-Ok.ensures.present;
       writes = λ streams are. (
         Ok c.in-Ok.worst,
         c.in-Ok.ensures.messages c.args.file.now rules from c.in_ok-explainer.ensures.made is streams are,
@@ -32,6 +33,7 @@ returns-clause-explains g c from accepts is =
       from = from;
       accepts = accepts;
       starts = is;
+      present = tt;
       writes = λ streams are. (
         Err c.in-Err.fault,
         c.in-Err.ensures.messages c.args.file.now rules from c.in_ok-explainer.ensures.made is streams are,

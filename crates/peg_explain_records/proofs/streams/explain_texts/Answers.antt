@@ -1,11 +1,12 @@
-use Rattle.std.proofs.Common.{◌≡◌, ◌∙◌, ◌+◌, ◌++◌, ◌∷◌, [], ℕ, List, Option, Err, Ok, Some, ap, arith, drop, map, refl, string_bytes, subst, sym, take, true, false}
+use Rattle.std.proofs.Common.{◌≡◌, ◌∙◌, ◌+◌, ◌++◌, ◌∷◌, [], ℕ, All, List, Option, Err, Ok, Some, ap, arith, drop, map, refl, string_bytes, subst, sym, take, true, false}
 use Rattle.std.proofs.lemmas.Grind.{common_steps}
 use Rattle.std.proofs.lemmas.List.{take_all}
+use Rattle.std.proofs.lemmas.List.Elements.{All-head, All-nil, All-push}
 use Rattle.std.specs.declared.alloc.Global.{Global}
 use Rattle.std.specs.declared.string.String.{String}
-use Rattle.peg_io.specs.NamedFile.{bytes_of}
+use Rattle.peg_io.specs.NamedFile.{IsMissing, bytes_of}
 use Rattle.peg_record_files.specs.RecordReplies.{worse_outcome}
-use Rattle.peg_record_files.specs.Streams.{bytes_of_streams}
+use Rattle.peg_record_files.specs.Streams.{ArePresent, bytes_of_streams}
 use Rattle.peg_record_files.specs.declared.outcome.RecordOutcome.{RecordOutcome}
 use Rattle.peg_record_files.proofs.StreamLemmas.{names-more}
 use Rattle.peg_explain_records.specs.Questions.{question_of}
@@ -20,6 +21,7 @@ texts-init g c = record {
   writes = λ file rules from of is streams are.
       messages-none (setting_of (question_of c.args.query.now) file rules)
       (λ (n : List ℕ). bytes_of (g.O.Opener.file_at c.args.files.now n)) streams (g.W.Sink.written c.args.output.now) are;
+  present = All-nil (λ (n : List ℕ). ¬ IsMissing (g.O.Opener.file_at c.args.files.now n));
 }
 
 pub texts-preserved : goal.texts-preserved
@@ -49,6 +51,12 @@ texts-preserved g c =
           (λ last named. c.in-Ok.ensures.messages file rules from of is last
           (subst (λ (ns : List (List ℕ)). bytes_of_streams file_at (g.I.Source.left c.texts.input) ns ≡ map Some last) (sym one)
           named)) streams (ap (map f) (sym more) ∙ are)));
+      present =
+          let Present = λ (n : List ℕ). ¬ IsMissing (g.O.Opener.file_at c.args.files.now n) in
+          let more = names-more texts i text name c.texts-test.true c.index-texts-index.is c.as_bytes-name.ensures.value in
+          let last = All-head Present name [] (subst (All Present) one c.in-Ok.ensures.present) in
+          subst (All Present) (sym more)
+          (All-push Present (map string_bytes (take i texts)) name c.texts.invariant.present last);
     }
 
 pub returns-in-Err-clause-messages : goal.returns-in-Err-clause-messages
@@ -113,3 +121,8 @@ returns-clause-messages g c file rules from of is streams are =
     → WritesMessages setting (map string_bytes l) streams (g.W.Sink.written c.args.output.now)
     (g.W.Sink.written c.texts.output) (Ok c.texts.worst)) (take_all c.texts.index texts c.texts-test.false)
     (c.texts.invariant.writes file rules from of is streams) named
+
+pub returns-clause-present : goal.returns-clause-present
+returns-clause-present g c =
+    subst (λ (l : List (String Global)). ArePresent (g.O.Opener.file_at c.args.files.now) (map string_bytes l))
+    (take_all c.texts.index c.args.query.now.texts.now c.texts-test.false) c.texts.invariant.present

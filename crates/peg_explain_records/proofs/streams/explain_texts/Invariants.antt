@@ -2,6 +2,7 @@ use Rattle.std.proofs.Common.{◌≡◌, ℕ, List, Ok, Some, false, map, string
 use Rattle.peg_explain.specs.Explainers.{IsExplainerOf}
 use Rattle.peg_io.specs.NamedFile.{bytes_of}
 use Rattle.peg_parser.specs.Parser.{start_named}
+use Rattle.peg_record_files.specs.Streams.{ArePresent}
 use Rattle.peg_semantics.specs.Rules.{Rule}
 use Rattle.peg_semantics.specs.Starts.{start_name}
 use Rattle.peg_explain_records.specs.Questions.{question_of}
@@ -19,4 +20,5 @@ invariant-texts g l = record {
       ≡ map Some streams → WritesMessages (setting_of (question_of l.query) file rules)
       (map string_bytes (take l.index l.texts)) streams (g.W.Sink.written l.initial.output) (g.W.Sink.written l.output)
       (Ok l.worst);
+  present : ArePresent (g.O.Opener.file_at l.files) (map string_bytes (take l.index l.texts));
 }

@@ -2,7 +2,7 @@ use Rattle.std.proofs.Common.{◌≡◌, ℕ, List, [], ap, arith, map, string_b
 use Rattle.std.proofs.lemmas.Grind.{common_steps}
 use Rattle.peg_records.specs.Records.{records}
 use Rattle.peg_record_files.specs.Runs.{LeadsTo}
-use Rattle.peg_record_files.proofs.StreamLemmas.{input-stream, known}
+use Rattle.peg_record_files.proofs.StreamLemmas.{input-stream, known, none-missing}
 use Rattle.peg_record_files.proofs.files.write_all.Goals as goal
 
 pub returns-then-is_empty-clause-leads : goal.returns-then-is_empty-clause-leads
@@ -20,3 +20,9 @@ returns-then-is_empty-clause-leads g c streams are =
     c.write_input.new.run old new c.write_input.result) one.1 c.write_input.ensures.leads in
     subst (λ (l : List (List ℕ)). LeadsTo IsReply filter run.reader.end l run c.write_input.new.run old new c.write_input.result)
     (sym one.2) leads
+
+pub returns-then-is_empty-clause-present : goal.returns-then-is_empty-clause-present
+returns-then-is_empty-clause-present g c =
+    let none : c.args.query.now.texts.now ≡ [] = grind (arith, common_steps) in
+    none-missing (g.O.Opener.file_at c.args.files.now) (map string_bytes c.args.query.now.texts.now) c.write_input.result
+    (ap (map string_bytes) none)

@@ -1,7 +1,7 @@
 use Rattle.peg_records.specs.Records.{records}
 use Rattle.peg_record_files.proofs.FileLemmas.{fault-of-open}
 use Rattle.peg_record_files.proofs.ReplyLemmas.{part-none}
-use Rattle.peg_record_files.proofs.StreamLemmas.{any-known, opened-known}
+use Rattle.peg_record_files.proofs.StreamLemmas.{any-known, on-ok, opened-known}
 use Rattle.peg_record_files.proofs.files.write_text.Goals as goal
 
 pub returns-in-Ok-clause-leads : goal.returns-in-Ok-clause-leads
@@ -17,3 +17,6 @@ pub returns-in-Err-Memory-clause-leads : goal.returns-in-Err-Memory-clause-leads
 returns-in-Err-Memory-clause-leads g c =
     any-known _ _ (λ stream. part-none (g.P.RecordPrinter.replies c.args.printer.now) c.args.filter
     c.args.run.now.reader.end c.args.run.now.lines.place (records c.args.run.now.reader.end stream) (g.W.Sink.written c.args.output.now))
+
+pub returns-in-Ok-clause-present : goal.returns-in-Ok-clause-present
+returns-in-Ok-clause-present g c = on-ok c.write_source.result c.in-Ok.ensures.missing

@@ -1,10 +1,14 @@
 use Rattle.std.proofs.Common.{◌∙◌, ◌+◌, ℕ, List, IfSome, ap, arith, drop, map, refl, string_bytes, subst, sym, take}
 use Rattle.std.proofs.lemmas.Grind.{common_steps}
 use Rattle.std.proofs.lemmas.List.{take_all}
+use Rattle.std.proofs.lemmas.List.Elements.{All-nil, All-push}
 use Rattle.std.specs.List.{flat_map}
-use Rattle.peg_io.specs.NamedFile.{bytes_of}
+use Rattle.std.specs.declared.alloc.Global.{Global}
+use Rattle.std.specs.declared.string.String.{String}
+use Rattle.peg_io.specs.NamedFile.{IsMissing, bytes_of}
 use Rattle.peg_records.specs.Records.{records}
 use Rattle.peg_record_files.specs.Runs.{AddsPart, AddsReplies}
+use Rattle.peg_record_files.specs.Streams.{ArePresent}
 use Rattle.peg_record_files.proofs.FileLemmas.{leads-error, texts-added, texts-none, texts-part}
 use Rattle.peg_record_files.proofs.StreamLemmas.{if-known, names-around, names-more}
 use Rattle.peg_record_files.proofs.WeakerReplies.{adds-part-weaker, adds-weaker}
@@ -20,6 +24,7 @@ names-init g c = record {
   adds = λ streams are. texts-none (g.P.RecordPrinter.replies c.args.printer.now) c.args.query.now.filter
       c.args.run.now.reader.end (λ (n : List ℕ). bytes_of (g.O.Opener.file_at c.args.files.now n)) c.args.run.now.lines
       (g.W.Sink.written c.args.output.now) streams are;
+  present = All-nil (λ (n : List ℕ). ¬ IsMissing (g.O.Opener.file_at c.args.files.now n));
 }
 
 pub names-preserved : goal.names-preserved
@@ -49,6 +54,15 @@ names-preserved g c = record {
       texts-added IsReply filter c.args.run.now.reader.end f (map string_bytes (take i texts)) name c.args.run.now.lines
       c.names.run.lines c.write_text.new.run.lines old mid new c.names.invariant.adds more streams
       (ap (map f) (sym (names-more texts i c.name-item.result name c.names-test.true c.name-item.is c.deref.ensures)) ∙ are);
+  present =
+      let file_at = g.O.Opener.file_at c.args.files.now in
+      let texts = c.args.query.now.texts.now in
+      let i = c.names.name-index in
+      let name = c.deref.result.now in
+      subst (ArePresent file_at)
+      (sym (names-more texts i c.name-item.result name c.names-test.true c.name-item.is c.deref.ensures))
+      (All-push (λ (n : List ℕ). ¬ IsMissing (file_at n)) (map string_bytes (take i texts)) name c.names.invariant.present
+      c.in_ok-write_text.ensures.present);
 }
 
 pub returns-in_err-write_text-clause-leads : goal.returns-in_err-write_text-clause-leads
@@ -79,3 +93,8 @@ returns-clause-leads g c streams are =
     let f = λ (n : List ℕ). bytes_of (g.O.Opener.file_at c.args.files.now n) in
     c.names.invariant.adds streams
     (ap (λ l. map f (map string_bytes l)) (take_all c.names.name-index c.args.query.now.texts.now c.names-test.false) ∙ are)
+
+pub returns-clause-present : goal.returns-clause-present
+returns-clause-present g c =
+    subst (λ (l : List (String Global)). ArePresent (g.O.Opener.file_at c.args.files.now) (map string_bytes l))
+    (take_all c.names.name-index c.args.query.now.texts.now c.names-test.false) c.names.invariant.present

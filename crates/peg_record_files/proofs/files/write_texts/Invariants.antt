@@ -4,6 +4,7 @@ use Rattle.peg_io.specs.NamedFile.{bytes_of}
 use Rattle.peg_records.specs.Records.{records}
 use Rattle.peg_record_files.specs.RecordReplies.{ImpliesReply}
 use Rattle.peg_record_files.specs.Runs.{AddsReplies, IsBetween, run_settings}
+use Rattle.peg_record_files.specs.Streams.{ArePresent}
 use Rattle.peg_record_files.proofs.files.write_texts.Given as goal
 
 -- what is written for the records of the first texts is added
@@ -19,4 +20,5 @@ invariant-names g l = record {
       ≡ map Some streams → AddsReplies (g.P.RecordPrinter.replies l.initial.printer) l.query.filter
       l.initial.run.reader.end (flat_map (records l.initial.run.reader.end) streams) l.initial.run.lines l.run.lines
       (g.W.Sink.written l.initial.output) (g.W.Sink.written l.output);
+  present : ArePresent (g.O.Opener.file_at l.files) (map string_bytes (take l.name-index l.texts));
 }

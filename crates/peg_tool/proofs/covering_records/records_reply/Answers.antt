@@ -10,7 +10,8 @@ use Rattle.peg_parser.specs.Parser.{parser_rules, start_named}
 use Rattle.peg_records.specs.Records.{records}
 use Rattle.peg_replies.proofs.ParsedLines.{given-name}
 use Rattle.peg_semantics.specs.Starts.{start_name}
-use Rattle.peg_tool.proofs.RecordCoverageLemmas.{can-cover, file-unread, kind-known, long-printed, records-printed, start-refused}
+use Rattle.peg_tool.specs.WordRequests.{cover_question}
+use Rattle.peg_tool.proofs.RecordCoverageLemmas.{can-cover, file-unread, kind-known, long-opened, long-printed, records-printed, short-present, start-refused}
 use Rattle.peg_tool.proofs.covering_records.records_reply.Goals as goal
 
 pub covered_reply-requires-clause-rules : goal.covered_reply-requires-clause-rules
@@ -31,6 +32,8 @@ returns-in_ok-covered_reply-in-Ok-clause-answer g c file of =
     (λ none. let bad = (c.in-Ok.ensures.no_start rules made).1 none in cc) in
     inr (
       can-cover query file rules from.0 of.1 from.1,
+      inl (short-present query.end (g.O.Opener.file_at c.args.files.now) (map string_bytes query.texts.now)
+          (c.in-Ok.ensures.present rules made)),
       λ streams are. records-printed query file grammar.file.items rules (flat_map (records query.end) streams) from.0
           c.in-Ok.coverage c.in_ok-covered_reply-in-Ok.field-0 of.0 of.1 from.1 (c.in-Ok.ensures.covered rules from.0 streams made from.1 are)
           c.in_ok-covered_reply-in-Ok.ensures,
@@ -61,6 +64,9 @@ returns-in_ok-line-in-Err-TextTooLong-clause-answer g c file of =
     (λ none. let bad = (c.in-Err-TextTooLong.ensures.no_start rules made).1 none in cc) in
     inr (
       can-cover query file rules from.0 of.1 from.1,
+      long-opened rules (cover_question query) (g.O.Opener.file_at c.args.files.now) (g.I.Source.left c.args.input.now)
+          (start_named query.options) c.in-Err-TextTooLong.field-0 c.in-Err-TextTooLong.field-0-is
+          (c.in-Err-TextTooLong.ensures.refused rules made),
       λ streams are. long-printed query file rules (flat_map (records query.end) streams)
           c.line_alone-in-Err-TextTooLong.result c.in_ok-line-in-Err-TextTooLong.line of.1
           c.line_alone-in-Err-TextTooLong.ensures.line c.line_alone-in-Err-TextTooLong.ensures.faults

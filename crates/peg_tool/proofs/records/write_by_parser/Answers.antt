@@ -1,8 +1,9 @@
 use Rattle.std.proofs.Common.{◌∙◌, Option, ap, inr, map, string_bytes, subst}
 use Rattle.std.specs.declared.io.ErrorKind.{ErrorKind}
+use Rattle.peg_record_files.specs.Streams.{ArePresent}
 use Rattle.peg_replies.specs.RecordReplies.{outcome_status}
 use Rattle.peg_tool.specs.RecordFaults.{HasFaultOfRecords}
-use Rattle.peg_tool.proofs.RecordsLemmas.{has-parse, records-by, records-end}
+use Rattle.peg_tool.proofs.RecordsLemmas.{has-parse, present-end, records-by, records-end}
 use Rattle.peg_tool.proofs.records.write_by_parser.Goals as goal
 
 pub returns-clause-leads : goal.returns-clause-leads
@@ -10,6 +11,8 @@ returns-clause-leads g c file of =
     let ended = c.write_records-ended in
     inr (
       has-parse file c.args.parser.now of,
+      present-end (ArePresent (g.O.Opener.file_at c.args.files.now) (map string_bytes c.args.query.now.texts.now))
+          outcome_status ended.result _ c.status_or_fault.ensures.plain ended.ensures.present,
       λ streams are. (
         ended.result,
         records-by file c.args.parser.now c.session-session.result _ _ _ _ _ ended.result c.session-session.ensures.records

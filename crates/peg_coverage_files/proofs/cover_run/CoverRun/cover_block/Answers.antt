@@ -1,7 +1,6 @@
-use Rattle.std.proofs.Common.{◌∙◌, ◌∷◌, ℕ, All, List, [], ap, refl, subst, sym}
+use Rattle.std.proofs.Common.{◌∙◌, ◌∷◌, [], ap, refl, subst, sym}
 use Rattle.std.proofs.lemmas.List.Elements.{All-cons, All-nil}
-use Rattle.peg_records.specs.Ahead.{IsGivenFor}
-use Rattle.peg_records.specs.Readers.{HasNext, IsAheadOf, record_at, settings_of}
+use Rattle.peg_records.specs.Readers.{HasNext, IsAheadOf, settings_of}
 use Rattle.peg_records.specs.declared.reader.RecordReader.{RecordReader}
 use Rattle.peg_coverage_files.specs.CoveringFaults.{IsFirst, IsLong, IsShort}
 use Rattle.peg_coverage_files.proofs.RunLemmas.{block-fault, first-long, first-more, first-none, first-read, next-long, too-long}

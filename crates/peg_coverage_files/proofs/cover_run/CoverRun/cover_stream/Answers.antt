@@ -4,7 +4,6 @@ use Rattle.peg_records.specs.Readers.{IsAheadOf}
 use Rattle.peg_records.specs.Records.{records}
 use Rattle.peg_record_files.proofs.StreamLemmas.{any-known, if-known, known, read-on, some-self}
 use Rattle.peg_coverage_files.specs.CoverRuns.{CoversFirst}
-use Rattle.peg_coverage_files.specs.CoverTerms.{CoverTerms}
 use Rattle.peg_coverage_files.specs.CoveringFaults.{IsFirst, IsLong, IsShort, read_fault}
 use Rattle.peg_coverage_files.proofs.RunLemmas.{first-long, first-more, first-none, read-ends, stream-ends, stream-fault, too-long}
 use Rattle.peg_coverage_files.proofs.cover_run.CoverRun.cover_stream.Goals as goal

@@ -1,4 +1,4 @@
-use Rattle.std.proofs.Common.{◌∙◌, IfErr, IfOk, IfSome, List, OnOk, Option, Result, Some, sym, subst, ℕ}
+use Rattle.std.proofs.Common.{◌∙◌, IfOk, IfSome, List, OnOk, Option, Result, Some, sym, subst, ℕ}
 use Rattle.peg_coverage.specs.Covered.{HasCovered, settings_of}
 use Rattle.peg_coverage.specs.Steps.{IsWithinSteps}
 use Rattle.peg_coverage.specs.declared.text_match.TextMatch.{TextMatch}
