@@ -11,9 +11,9 @@ The help of the program names the commands, and the extensions of Ford's notatio
   $ grep -o -e 'Usage: pegtool <COMMAND>' -e "explain  Prints where texts don't match a grammar" h
   Usage: pegtool <COMMAND>
   explain  Prints where texts don't match a grammar
-  $ grep -o -e '`explain` and `test`' -e 'messages for people' -e 'Example: pegtool parse grammar\.peg text' h
-  `explain` and `test`
-  messages for people
+  $ grep -o -e '`explain`, `test` and' -e '`lint --human` print' -e 'Example: pegtool parse grammar\.peg text' h
+  `explain`, `test` and
+  `lint --human` print
   Example: pegtool parse grammar.peg text
   $ grep -o -e 'may be written as `\\xHH`' -e '`e{2,4}` two to four' h
   may be written as `\xHH`
@@ -74,7 +74,8 @@ The help of parse has its options, the default of the memo and the refusals. Wit
   $ grep -o -e 'Example: pegtool parse grammar\.peg text --start Value --all --rows' h
   Example: pegtool parse grammar.peg text --start Value --all --rows
 
-The help of explain has its options, their defaults and the form of a message.
+The help of explain has its options, their defaults and the form of a message. Two limits have none by default: that of
+steps, and that of messages.
 
   $ pegtool explain --help > h
   $ grep -o -e 'Usage: pegtool explain \[OPTIONS] <G> \[T]\.\.\.' -e '--files-from <FILE>' -e '  --null' h
@@ -86,6 +87,7 @@ The help of explain has its options, their defaults and the form of a message.
   [default: 4096]
   [default: no limit]
     --rules
+  [default: no limit]
   $ grep -o -e '  --terminals' -e '  --quiet' -e "FILE:LINE:COLUMN: expected A, B or C, found 'x'" h
     --terminals
     --quiet
